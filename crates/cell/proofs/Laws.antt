@@ -1,0 +1,209 @@
+-- The laws of frames, places and numbers, each once over the level k. They are what the crates above cite.
+-- Assumes nothing.
+use Prim.Native.Nat.{ℕ, zero, suc, _+_, _*_, _-_, _/_, _%_, _^_, _≤_, _<_}
+use mathlib.Core.Path.{_≡_, refl, sym, ap, ap₂, subst, _∙_}
+use mathlib.Core.Logic.{_↔_}
+use native.Mathlib.Nat.{one-mul, mod-eq-of-lt, add-mul, mul-assoc, le-div-iff-mul-le, le-pred-of-lt, mul-le-mul-right, pow-suc, pow-zero, one-le-pow, mod-one, div-add-mod', div-lt-iff-lt-mul, div-div-eq-div-mul, mul-left-comm}
+use native.Mathlib.Omega.{arith}
+use lib.ListN.{getD}
+use lib.Pow.{pow-lt}
+use lib.Arith.{digits-lt, digits-div, mod-mul}
+use Rattle.cell.specs.declared.Kind.{Kind}
+use Rattle.cell.specs.declared.Kind.the-variants.{Up, Down}
+use Rattle.cell.specs.Cell.{Frame, frameOf, up, down, children, child, frame, span, Place, place, Occurs, origins, parities, origin, digits, number}
+
+-- ---- one step of the table
+
+-- what holds of 0, 1, 2 and 3 holds of each digit
+pub digit-cases : (P : ℕ → Type 0) → P 0 → P 1 → P 2 → P 3 → (d : ℕ) → d < 4 → P d
+digit-cases P p0 p1 p2 p3 zero h = p0
+digit-cases P p0 p1 p2 p3 (suc zero) h = p1
+digit-cases P p0 p1 p2 p3 (suc (suc zero)) h = p2
+digit-cases P p0 p1 p2 p3 (suc (suc (suc zero))) h = p3
+digit-cases P p0 p1 p2 p3 (suc (suc (suc (suc d)))) h = absurd (omega arith)
+
+even-mod : (a : ℕ) → 2 * a % 2 ≡ 0
+even-mod a = omega arith
+
+even-div : (a : ℕ) → 2 * a / 2 ≡ a
+even-div a = omega arith
+
+odd-mod : (a : ℕ) → (2 * a + 1) % 2 ≡ 1
+odd-mod a = omega arith
+
+odd-div : (a : ℕ) → (2 * a + 1) / 2 ≡ a
+odd-div a = omega arith
+
+ruleset halves = (even-mod, even-div, odd-mod, odd-div)
+
+-- a child's parent and digit are those it was made of
+pub origin-child : (f : Frame) (d : ℕ) → d < 4 → origin (child f d) ≡ (f, d)
+unfolding child children origin origins parities
+origin-child (up a b) = digit-cases _ (simp halves) (simp halves) (simp halves) (simp halves)
+origin-child (down a b) = digit-cases _ (simp halves) (simp halves) (simp halves) (simp halves)
+
+-- what is known of a frame's parent and digit: the frame is that child, the digit is below 4, and the parent occurs wherever the frame's level has a level above it
+record Back (f : Frame) (o : Frame × ℕ) : Type 0 where
+  again : child (o .0) (o .1) ≡ f
+  small : o .1 < 4
+  inside : (M : ℕ) → span f ≤ 2 * M → span (o .0) ≤ M
+
+back : (f : Frame) → Back f (origin f)
+unfolding origin origins parities child children span
+back (up a b) = digit-cases (λ (i : ℕ). parities (up a b) ≡ i → Back (up a b) (getD (origins (up a b)) i (up a b, 0)))
+    (λ e. record { again = ap₂ up (omega arith) (omega arith); small = omega arith; inside = λ M h. omega arith })
+    (λ e. record { again = ap₂ up (omega arith) (omega arith); small = omega arith; inside = λ M h. omega arith })
+    (λ e. record { again = ap₂ up (omega arith) (omega arith); small = omega arith; inside = λ M h. omega arith })
+    (λ e. record { again = ap₂ up (omega arith) (omega arith); small = omega arith; inside = λ M h. omega arith })
+    (parities (up a b)) (omega arith) refl
+back (down a b) = digit-cases (λ (i : ℕ). parities (down a b) ≡ i → Back (down a b) (getD (origins (down a b)) i (down a b, 0)))
+    (λ e. record { again = ap₂ down (omega arith) (omega arith); small = omega arith; inside = λ M h. omega arith })
+    (λ e. record { again = ap₂ down (omega arith) (omega arith); small = omega arith; inside = λ M h. omega arith })
+    (λ e. record { again = ap₂ down (omega arith) (omega arith); small = omega arith; inside = λ M h. omega arith })
+    (λ e. record { again = ap₂ down (omega arith) (omega arith); small = omega arith; inside = λ M h. omega arith })
+    (parities (down a b)) (omega arith) refl
+
+child-span : (f : Frame) (M : ℕ) → span f ≤ M → (d : ℕ) → d < 4 → span (child f d) ≤ 2 * M
+unfolding child children span
+child-span (up a b) M h = digit-cases _ (omega arith) (omega arith) (omega arith) (omega arith)
+child-span (down a b) M h = digit-cases _ (omega arith) (omega arith) (omega arith) (omega arith)
+
+-- ---- all levels
+
+two-pow : (k : ℕ) → 2 ^ suc k ≡ 2 * 2 ^ k
+two-pow k = omega (arith, pow-suc 2 k)
+
+four-pow : (k : ℕ) → 4 ^ suc k ≡ 4 * 4 ^ k
+four-pow k = omega (arith, pow-suc 4 k)
+
+-- each number leads to a frame of its level
+pub frame-span : (k n : ℕ) → span (frame k n) ≤ 2 ^ k
+unfolding frame span
+frame-span zero n = omega (arith, pow-zero 2)
+frame-span (suc k) n = rw (two-pow k) (child-span (frame k (n / 4)) (2 ^ k) (frame-span k (n / 4)) (n % 4) (omega arith))
+
+-- k digits are a number below 4^k
+pub digits-below : (k : ℕ) (f : Frame) → digits k f < 4 ^ k
+unfolding digits
+digits-below zero f = omega (arith, pow-zero 4)
+digits-below (suc k) f = omega (arith, four-pow k, digits-below k (origin f .0), back f .small)
+
+-- a frame's digits lead to it
+pub frame-digits : (k : ℕ) (f : Frame) → span f ≤ 2 ^ k → frame k (digits k f) ≡ f
+unfolding frame digits span
+frame-digits zero (up a b) h = ap₂ up (omega (arith, pow-zero 2)) (omega (arith, pow-zero 2))
+frame-digits zero (down a b) h = absurd (omega (arith, pow-zero 2))
+frame-digits (suc k) f h =
+    let d = digits k (origin f .0) in
+    let r = origin f .1 in
+    let high : (4 * d + r) / 4 ≡ d = omega (arith, back f .small) in
+    let low : (4 * d + r) % 4 ≡ r = omega (arith, back f .small) in
+    let same : frame k d ≡ origin f .0 = frame-digits k (origin f .0) (back f .inside (2 ^ k) (rw two-pow at h)) in
+    rw (high, low, same) (back f .again)
+
+-- the digits of the frame that a number leads to are the number's k lowest
+pub digits-frame : (k n : ℕ) → digits k (frame k n) ≡ n % 4 ^ k
+unfolding frame digits
+digits-frame zero n = sym (rw pow-zero (mod-one n))
+digits-frame (suc k) n =
+    let b : n % 4 < 4 = omega arith in
+    rw (origin-child (frame k (n / 4)) (n % 4) b, digits-frame k (n / 4), pow-suc 4 k)
+    (omega (arith, mod-mul n {m = 4 ^ k} {c = 4} (one-le-pow k 4 (omega arith)) (omega arith)))
+
+-- digits above the k lowest do not matter to the frame
+frame-low : (k o d : ℕ) → frame k (o * 4 ^ k + d) ≡ frame k d
+unfolding frame
+frame-low zero o d = refl
+frame-low (suc k) o d =
+    let e : o * 4 ^ suc k ≡ 4 * (o * 4 ^ k) = rw four-pow (mul-left-comm o 4 (4 ^ k)) in
+    let high : (o * 4 ^ suc k + d) / 4 ≡ o * 4 ^ k + d / 4 = omega arith in
+    let low : (o * 4 ^ suc k + d) % 4 ≡ d % 4 = omega arith in
+    rw (high, low, frame-low k o (d / 4))
+
+-- ---- places
+
+-- a number of the level has a place that occurs there
+pub place-occurs : (k n : ℕ) → n < 8 * 4 ^ k → Occurs k (place k n)
+unfolding place
+place-occurs k n h = (div-lt-iff-lt-mul (one-le-pow k 4 (omega arith)) .1 h, frame-span k n)
+
+-- a place that occurs has a number of the level
+pub number-below : (k : ℕ) (p : Place) → Occurs k p → number k p < 8 * 4 ^ k
+unfolding number
+number-below k p h = digits-lt (h .0) (digits-below k (p .1))
+
+-- a place's number has that place
+pub place-number : (k : ℕ) (p : Place) → Occurs k p → place k (number k p) ≡ p
+unfolding place number
+place-number k p h =
+    let e : (p .0 * 4 ^ k + digits k (p .1)) / 4 ^ k ≡ p .0 = digits-div (p .0) (digits-below k (p .1)) in
+    let f : frame k (p .0 * 4 ^ k + digits k (p .1)) ≡ p .1 = frame-low k (p .0) (digits k (p .1)) ∙ frame-digits k (p .1) (h .1) in
+    λ i. (e i, f i)
+
+-- a number's place has that number
+pub number-place : (k n : ℕ) → number k (place k n) ≡ n
+unfolding place number
+number-place k n = rw digits-frame (div-add-mod' n (4 ^ k))
+
+-- the places that occur are exactly those of the level's numbers: up with a+b ≤ N−1 and down with a+b ≤ N−2, in octants 0 to 7
+pub occurs-exactly : (k : ℕ) (p : Place) → Occurs k p ↔ ((n : ℕ) × (n < 8 * 4 ^ k) × (place k n ≡ p))
+occurs-exactly k p = (
+  λ h. (number k p, number-below k p h, place-number k p h),
+  λ w. subst (Occurs k) (w .2) (place-occurs k (w .0) (w .1)),
+)
+
+-- child d of cell c at level k is cell 4c + d at level k + 1
+pub child-number : (k c d : ℕ) → d < 4 → place (suc k) (4 * c + d) ≡ (place k c .0, child (place k c .1) d)
+unfolding place frame
+child-number k c d h =
+    let high : (4 * c + d) / 4 ≡ c = omega arith in
+    let low : (4 * c + d) % 4 ≡ d = omega arith in
+    let o : (4 * c + d) / 4 ^ suc k ≡ c / 4 ^ k = rw (four-pow, ← (div-div-eq-div-mul (4 * c + d) 4 (4 ^ k)), high) in
+    rw (o, high, low)
+
+-- ---- what the code computes by
+
+-- a shift by two bits a digit
+pub shift-four : (n k : ℕ) → n / 2 ^ (2 * k) ≡ n / 4 ^ k
+shift-four n k = ap (λ (m : ℕ). n / m) (go k)
+  where
+    go : (j : ℕ) → 2 ^ (2 * j) ≡ 4 ^ j
+    go zero = refl
+    go (suc j) = let e : 2 * suc j ≡ suc (suc (2 * j)) = omega arith in rw e (omega (arith, pow-suc 2 (suc (2 * j)), pow-suc 2 (2 * j), pow-suc 4 j, go j))
+
+-- row and column of a frame are below what it spans
+pub frame-bounds : (t : Kind) (a b M : ℕ) → span (frameOf t a b) ≤ M → (a < M) × (b < M)
+unfolding span
+frame-bounds Up a b M h = omega arith
+frame-bounds Down a b M h = omega arith
+
+-- one digit more
+pub frame-more : (k j n : ℕ) → j < k → frame (k - j) (n / 4 ^ j) ≡ child (frame (k - suc j) (n / 4 ^ suc j)) (n / 4 ^ j % 4)
+unfolding frame
+frame-more k j n h =
+    let e : k - j ≡ suc (k - suc j) = omega arith in
+    let q : n / 4 ^ j / 4 ≡ n / 4 ^ suc j = rw (pow-suc, div-div-eq-div-mul) in
+    rw (e, q)
+
+-- an octant above 7 is a number past the level's
+pub past-level : (k n : ℕ) → 8 ≤ n / 2 ^ (2 * k) → 8 * 4 ^ k ≤ n
+past-level k n h = le-div-iff-mul-le (one-le-pow k 4 (omega arith)) .0 (rw shift-four at h)
+
+pub below-level : (k n : ℕ) → n / 2 ^ (2 * k) < 8 → n < 8 * 4 ^ k
+below-level k n h = div-lt-iff-lt-mul (one-le-pow k 4 (omega arith)) .0 (rw shift-four at h)
+
+-- one digit moved from the frame to the sum
+pub digits-more : (k j : ℕ) (f : Frame) (w s : ℕ) → j < k → digits (k - suc j) (origin f .0) * (4 * w) + (s + origin f .1 * w) ≡ digits (k - j) f * w + s
+unfolding digits
+digits-more k j f w s h =
+    let e : k - j ≡ suc (k - suc j) = omega arith in
+    let d = digits (k - suc j) (origin f .0) in
+    rw (e, add-mul) (omega (arith, mul-left-comm d 4 w, mul-assoc 4 d w))
+
+-- a digit at its weight keeps the sum below the next weight
+pub digit-weight : (f : Frame) (w s : ℕ) → s < w → s + origin f .1 * w < 4 * w
+digit-weight f w s h = omega (arith, mul-le-mul-right w (le-pred-of-lt (back f .small)))
+
+-- N as the code shifts it
+pub shifted-one : (k : ℕ) → k ≤ 14 → 1 * 2 ^ k % 2 ^ 64 ≡ 2 ^ k
+shifted-one k h = rw one-mul (mod-eq-of-lt (pow-lt {i = k} {j = 64} (omega arith)))

@@ -1,0 +1,103 @@
+-- `ascend` meets its contract. The invariant: with `done` digits taken off, they are the number `digits` below 4^done, and the place's digits are those of what is left, above them.
+-- The measure is the number of digits left. Assumes nothing.
+use Prim.Native.Nat.{ℕ, suc, _≤_, _<_, _-_, _+_, _*_, _/_, _^_}
+use mathlib.Core.Path.{_≡_, refl, ap, sym, _∙_}
+use native.Mathlib.Numerals.{add-one}
+use native.Mathlib.Omega.{arith}
+use native.Mathlib.Nat.{le-trans, pow-le-pow-right, pow-suc, sub-zero}
+use lib.Arith.{digits-lt}
+use borrow.Author.Needs.{needs}
+use Rattle.cell.specs.Cell as Cell
+use Rattle.cell.specs.Cell.{placeOf, origin, number}
+use Rattle.cell.proofs.Laws.{digits-more, digit-weight}
+use Rattle.cell.proofs.ascend.Statement.{statement}
+use Rattle.cell.proofs.ascend.Tie as tie
+
+abbrev Inv-loop : tie.InvT-loop
+Inv-loop level octant low₀ digits₀ weight₀ done₀ low digits weight done = (done ≤ level) × (weight ≡ 4 ^ done) × (digits < weight) × (Cell.digits (level - done) (placeOf low .1) * weight + digits ≡ Cell.digits level (placeOf low₀ .1))
+
+abbrev μ-loop : tie.MeasureT-loop
+μ-loop level octant low₀ digits₀ weight₀ done₀ low digits weight done = level - done
+
+loop-holds : tie.Need-loop-holds Inv-loop μ-loop
+loop-holds c = (omega arith, refl, omega arith, rw sub-zero (omega arith))
+
+origin-of-requires : tie.Need-origin-of-requires Inv-loop μ-loop
+origin-of-requires c κs = tt
+
+-- a weight still to come is at most 4^13, and the sum with its digit stays below the next weight
+room : (c : tie.After-struct-known Inv-loop μ-loop) → (c .before .before .before .loop .digits + c .before .origin-of .result .1 * c .before .before .before .loop .weight < 4 * c .before .before .before .loop .weight) × (c .before .before .before .loop .weight ≤ 4 ^ 13)
+room c =
+    let l = c .before .before .before .loop in
+    let f = placeOf (l .low) .1 in (
+      rw (c .before .origin-of .ensures .1) (digit-weight f (l .weight) (l .digits) (l .inv .2)),
+      rw (l .inv .1) (pow-le-pow-right {n = 4} (omega arith) {i = l .done} {j = 13} (omega arith)),
+    )
+
+mul-digits : tie.Need-mul-digits Inv-loop μ-loop
+mul-digits c = omega (arith, room c)
+
+add-digits : tie.Need-add-digits Inv-loop μ-loop
+add-digits c = omega (arith, room c)
+
+mul-weight : tie.Need-mul-weight Inv-loop μ-loop
+mul-weight c = omega (arith, room c)
+
+add-done : tie.Need-add-done Inv-loop μ-loop
+add-done c = omega arith
+
+loop-less : tie.Need-loop-less Inv-loop μ-loop
+loop-less c = omega arith
+
+loop-again : tie.Need-loop-again Inv-loop μ-loop
+loop-again c =
+    let l = c .before .before .before .before .loop in
+    let p = ap (λ (q : Cell.Place). q .1) (c .before .before .origin-of .ensures .0) in
+    let d = c .before .before .origin-of .ensures .1 in
+    let f = placeOf (l .low) .1 in (
+      omega arith,
+      rw add-one (omega (arith, pow-suc 4 (l .done))),
+      room (c .before) .0,
+      rw (add-one, p, d, digits-more (c .before .before .before .before .before .args .level) (l .done) f (l .weight) (l .digits) (omega arith)) (l .inv .3),
+    )
+
+-- after the loop the octant above the digits stays below 8 × 4^14
+whole : (c : tie.After-loop Inv-loop μ-loop) → (c .before .before .args .place .octant * c .before .loop .weight + c .before .loop .digits < 8 * c .before .loop .weight) × (c .before .loop .weight ≤ 4 ^ 14)
+whole c =
+    let l = c .before .loop in (
+      digits-lt (c .before .before .pre .1 .0) (l .inv .2),
+      rw (l .inv .1) (pow-le-pow-right {n = 4} (omega arith) {i = l .done} {j = 14} (omega arith)),
+    )
+
+mul-result : tie.Need-mul-result Inv-loop μ-loop
+mul-result c = omega (arith, whole c)
+
+add-result : tie.Need-add-result Inv-loop μ-loop
+add-result c = omega (arith, whole c)
+
+returns : tie.Need-returns Inv-loop μ-loop
+unfolding number Cell.digits
+returns c =
+    let l = c .before .loop in
+    let e : l .done ≡ c .before .before .args .level = omega arith in
+    let z : c .before .before .args .level - l .done ≡ 0 = omega arith in
+    let d : l .digits ≡ Cell.digits (c .before .before .args .level) (placeOf (c .before .before .args .place) .1) = omega (arith, rw z at (l .inv .3)) in
+    rw (d, l .inv .1, e)
+
+pub ascend-spec : {M : Type 1} → statement M
+ascend-spec =
+    tie.close
+    (tie.spec
+    Inv-loop
+    μ-loop
+    loop-holds
+    origin-of-requires
+    mul-digits
+    add-digits
+    mul-weight
+    add-done
+    loop-less
+    loop-again
+    mul-result
+    add-result
+    returns)

@@ -1,0 +1,107 @@
+-- Cells and their numbers (document 01, "Cells and their numbers"). At level k, N is 2 ^ k.
+use Prim.Native.Nat.{ℕ, zero, suc, _+_, _*_, _/_, _%_, _^_, _≤_, _<_}
+use mathlib.Core.List.{List, [], _∷_}
+use lib.Dec.{leb, ltb}
+use lib.ListN.{getD}
+use Rattle.refusal.specs.Answer.{Answer, given, refused, _when_, inOrder}
+use Rattle.cell.specs.declared.Kind.{Kind}
+use Rattle.cell.specs.declared.Kind.the-variants.{Up, Down}
+use Rattle.cell.specs.declared.Place as declared
+use Rattle.cell.specs.declared.PlaceAnswer.{PlaceAnswer}
+use Rattle.cell.specs.declared.PlaceAnswer.the-variants as place-answer
+use Rattle.cell.specs.declared.NumberAnswer.{NumberAnswer}
+use Rattle.cell.specs.declared.NumberAnswer.the-variants as number-answer
+
+-- ---- frames
+
+-- where a cell lies in its octant: row a counts from the equator to the pole, column b from the west edge
+pub data Frame : Type 0 where
+  up : ℕ → ℕ → Frame
+  down : ℕ → ℕ → Frame
+
+-- the table of children: 0, 1, 2, 3
+unfoldable pub children : Frame → List Frame
+children (up a b) = down (2 * a) (2 * b) ∷ up (2 * a + 1) (2 * b) ∷ up (2 * a) (2 * b) ∷ up (2 * a) (2 * b + 1) ∷ []
+children (down a b) =
+    up (2 * a + 1) (2 * b + 1) ∷ down (2 * a) (2 * b + 1) ∷ down (2 * a + 1) (2 * b) ∷ down (2 * a + 1) (2 * b + 1) ∷ []
+
+-- child d of a frame, d a digit below 4
+unfoldable pub child : Frame → ℕ → Frame
+child f d = getD (children f) d f
+
+-- the frame of the cell whose digits are the k lowest base-4 digits of n, the highest of them first
+unfoldable pub frame : ℕ → ℕ → Frame
+frame zero n = up 0 0
+frame (suc k) n = child (frame k (n / 4)) (n % 4)
+
+-- the least N at which a frame occurs: up(a,b) with a+b ≤ N−1, down(a,b) with a+b ≤ N−2
+unfoldable pub span : Frame → ℕ
+span (up a b) = a + b + 1
+span (down a b) = a + b + 2
+
+-- ---- places
+
+-- a cell's octant and its frame there
+abbrev pub Place : Type 0
+Place = ℕ × Frame
+
+-- the place of cell number n at level k: the octant, and what the k digits lead to
+unfoldable pub place : ℕ → ℕ → Place
+place k n = (n / 4 ^ k, frame k n)
+
+-- the places that occur at level k
+abbrev pub Occurs : ℕ → Place → Type 0
+Occurs k p = (p .0 < 8) × (span (p .1) ≤ 2 ^ k)
+
+-- the table of children read backwards: a frame's parent, and which child of it the frame is, for the parities (0,0), (0,1), (1,0), (1,1) of row and column
+unfoldable pub origins : Frame → List (Frame × ℕ)
+origins (up a b) =
+    (up (a / 2) (b / 2), 2) ∷ (up (a / 2) (b / 2), 3) ∷ (up (a / 2) (b / 2), 1) ∷ (down (a / 2) (b / 2), 0) ∷ []
+origins (down a b) =
+    (up (a / 2) (b / 2), 0) ∷ (down (a / 2) (b / 2), 1) ∷ (down (a / 2) (b / 2), 2) ∷ (down (a / 2) (b / 2), 3) ∷ []
+
+unfoldable pub parities : Frame → ℕ
+parities (up a b) = 2 * (a % 2) + b % 2
+parities (down a b) = 2 * (a % 2) + b % 2
+
+unfoldable pub origin : Frame → Frame × ℕ
+origin f = getD (origins f) (parities f) (f, 0)
+
+-- the k digits of a frame of level k, read in base 4
+unfoldable pub digits : ℕ → Frame → ℕ
+digits zero f = 0
+digits (suc k) f = 4 * digits k (origin f .0) + origin f .1
+
+-- the number of a place at level k: octant × 4^k plus the digits
+unfoldable pub number : ℕ → Place → ℕ
+number k p = p .0 * 4 ^ k + digits k (p .1)
+
+-- ---- the two calls
+
+-- the highest level of cells
+abbrev pub maxLevel : ℕ
+maxLevel = 14
+
+-- place of a number: refused 1, 4
+abbrev pub placeCall : ℕ → ℕ → Answer Place
+placeCall k n = inOrder (1 when ltb maxLevel k ∷ 4 when leb (8 * 4 ^ k) n ∷ []) (place k n)
+
+-- number of a place: refused 1; 4 where no cell of the level has that place
+abbrev pub numberCall : ℕ → Place → Answer ℕ
+numberCall k p = inOrder (1 when ltb maxLevel k ∷ 4 when leb 8 (p .0) ∷ 4 when ltb (2 ^ k) (span (p .1)) ∷ []) (number k p)
+
+-- what the code's values stand for
+abbrev pub frameOf : Kind → ℕ → ℕ → Frame
+frameOf Up a b = up a b
+frameOf Down a b = down a b
+
+abbrev pub placeOf : declared.Place → Place
+placeOf p = (p .octant, frameOf (p .kind) (p .row) (p .col))
+
+abbrev pub saidPlace : PlaceAnswer → Answer Place
+saidPlace (place-answer.At p) = given (placeOf p)
+saidPlace (place-answer.Refused n) = refused n
+
+abbrev pub saidNumber : NumberAnswer → Answer ℕ
+saidNumber (number-answer.Number n) = given n
+saidNumber (number-answer.Refused n) = refused n

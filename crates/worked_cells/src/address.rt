@@ -1,0 +1,21 @@
+// Addresses as the source documents write them: the octant's digit and then one digit a level.
+
+// The cell number of an address. The characters 0 to 7 leave their digits when divided by 8.
+pub fn read(address: &[u8]) -> u32 {
+    let mut n: u32 = 0;
+    let mut i: usize = 0;
+    while i < address.len() {
+        n = n % 0x1000_0000 * 4 + (address[i] % 8) as u32;
+        i += 1;
+    }
+    n
+}
+
+pub fn print(level: u32, cell: u32) {
+    let mut left = level % 15;
+    crate::print::number((cell >> (2 * left)) % 8);
+    while 0 < left {
+        left -= 1;
+        crate::print::number((cell >> (2 * left)) % 4);
+    }
+}

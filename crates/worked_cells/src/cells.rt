@@ -1,0 +1,137 @@
+// Cells and their numbers.
+use crate::address;
+use crate::print;
+use cell::Kind;
+use cell::NumberAnswer;
+use cell::Place;
+use cell::PlaceAnswer;
+
+pub fn show() {
+    show_place(4, address::read(b"03023"));
+    show_place(4, address::read(b"01003"));
+    show_place(0, 7);
+    show_place(0, 8);
+    show_place(14, 0x7fff_ffff);
+    show_place(14, 0x8000_0000);
+    show_place(15, 0);
+    show_number(
+        4,
+        Place {
+            octant: 0,
+            kind: Kind::Down,
+            row: 3,
+            col: 9,
+        },
+    );
+    show_number(
+        4,
+        Place {
+            octant: 0,
+            kind: Kind::Up,
+            row: 10,
+            col: 3,
+        },
+    );
+    show_number(
+        0,
+        Place {
+            octant: 7,
+            kind: Kind::Up,
+            row: 0,
+            col: 0,
+        },
+    );
+    show_number(
+        0,
+        Place {
+            octant: 7,
+            kind: Kind::Down,
+            row: 0,
+            col: 0,
+        },
+    );
+    show_number(
+        4,
+        Place {
+            octant: 8,
+            kind: Kind::Up,
+            row: 0,
+            col: 0,
+        },
+    );
+    show_number(
+        15,
+        Place {
+            octant: 0,
+            kind: Kind::Up,
+            row: 0,
+            col: 0,
+        },
+    );
+    show_source_003(address::read(b"03023"));
+    show_source_003(address::read(b"01003"));
+}
+
+fn print_place(place: Place) {
+    let kind = place.kind;
+    print::labelled(b"octant ", place.octant);
+    match kind {
+        Kind::Up => print::text(b" up"),
+        Kind::Down => print::text(b" down"),
+    }
+    print::labelled(b"(", place.row);
+    print::labelled(b",", place.col);
+    print::text(b")");
+}
+
+fn show_place(level: u32, cell: u32) {
+    print::labelled(b"level ", level);
+    print::labelled(b" cell ", cell);
+    print::text(b": ");
+    match cell::place_of(level, cell) {
+        PlaceAnswer::At(place) => {
+            address::print(level, cell);
+            print::text(b", ");
+            print_place(place);
+        }
+        PlaceAnswer::Refused(n) => print::refused(n),
+    }
+    print::text(b"\n");
+}
+
+fn show_number(level: u32, place: Place) {
+    print::labelled(b"level ", level);
+    print::text(b" ");
+    print_place(place);
+    print::text(b": ");
+    match cell::number_of(level, place) {
+        NumberAnswer::Number(cell) => print::labelled(b"cell ", cell),
+        NumberAnswer::Refused(n) => print::refused(n),
+    }
+    print::text(b"\n");
+}
+
+// Source 003's coordinates of a cell of level 4.
+fn show_source_003(cell: u32) {
+    print::text(b"source 003: ");
+    address::print(4, cell);
+    match cell::place_of(4, cell) {
+        PlaceAnswer::At(place) => {
+            let kind = place.kind;
+            match kind {
+                Kind::Up => print_source_003(place.row, place.col, 1),
+                Kind::Down => print_source_003(place.row, place.col, 2),
+            }
+        }
+        PlaceAnswer::Refused(n) => print::refused(n),
+    }
+    print::text(b"\n");
+}
+
+// In the source's units Y is 3a + s and X is a third of 2(3b + s) + Y, with s = 1 for up and 2 for down. At level 4 rows and columns are below 16.
+fn print_source_003(row: u32, col: u32, s: u32) {
+    let y = 3 * (row % 16) + s % 4;
+    let x = (2 * (3 * (col % 16) + s % 4) + y) / 3;
+    print::labelled(b" has X = ", x);
+    print::labelled(b", Y = ", y);
+}
