@@ -204,6 +204,9 @@ digits-more k j f w s h =
 pub digit-weight : (f : Frame) (w s : ℕ) → s < w → s + origin f .1 * w < 4 * w
 digit-weight f w s h = omega (arith, mul-le-mul-right w (le-pred-of-lt (back f .small)))
 
--- N as the code shifts it
+-- N as the code shifts it, in w bits
+pub shifted : (w k : ℕ) → k < w → 1 * 2 ^ k % 2 ^ w ≡ 2 ^ k
+shifted w k h = rw one-mul (mod-eq-of-lt (pow-lt h))
+
 pub shifted-one : (k : ℕ) → k ≤ 14 → 1 * 2 ^ k % 2 ^ 64 ≡ 2 ^ k
-shifted-one k h = rw one-mul (mod-eq-of-lt (pow-lt {i = k} {j = 64} (omega arith)))
+shifted-one k h = shifted 64 k (omega arith)

@@ -22,3 +22,12 @@ unless (n when false) rest = rest
 abbrev pub inOrder : {A : Type 0} → List Test → A → Answer A
 inOrder [] a = given a
 inOrder (t ∷ ts) a = unless t (inOrder ts a)
+
+-- the same for a call that is lent a slice: what it leaves there where it is not refused; a refusal leaves all as it was
+abbrev pub unlessLent : {A S : Type 0} → S → Test → Answer A × S → Answer A × S
+unlessLent stays (n when true) rest = (refused n, stays)
+unlessLent stays (n when false) rest = rest
+
+abbrev pub inOrderLent : {A S : Type 0} → List Test → S → A → S → Answer A × S
+inOrderLent [] stays a leaves = (given a, leaves)
+inOrderLent (t ∷ ts) stays a leaves = unlessLent stays t (inOrderLent ts stays a leaves)

@@ -1,9 +1,11 @@
 -- The cells that document 01 works out and marks with a star ("Cells worked out"), as one list of statements over the calls' own definitions.
-use Prim.Native.Nat.{ℕ}
 use mathlib.Core.Path.{_≡_}
 use mathlib.Core.List.{List, [], _∷_}
+use lib.IntN.{pos, negℤ}
 use Rattle.refusal.specs.Answer.{given}
 use Rattle.cell.specs.Cell.{up, down, placeCall}
+use Rattle.position.specs.Position.{cellCall, centreCall}
+use Rattle.step.specs.Step.{stepCall}
 
 -- each statement of a list holds
 abbrev pub All : List (Type 0) → Type 0
@@ -15,4 +17,19 @@ workedCells =
     -- level 4: digits 3023 of octant 0 (cell 203) is down(3,9); 1003 (cell 67) is up(10,3)
     (placeCall 4 203 ≡ given (0, down 3 9))
     ∷ (placeCall 4 67 ≡ given (0, up 10 3))
+    -- T (code 5) of 02323 (cell 187) is 42323 (cell 1211)
+    ∷ (stepCall 4 187 5 ≡ given 1211)
+    -- E (code 6) of 01313 (cell 119) is 11212 (cell 358)
+    ∷ (stepCall 4 119 6 ≡ given 358)
+    -- W (code 7) of 01212 (cell 102) is 31313 (cell 887)
+    ∷ (stepCall 4 102 7 ≡ given 887)
+    -- level 1, latitude 22,500,000: longitude 30,000,000 gives cell 0, 29,999,999 gives cell 2
+    ∷ (cellCall 1 (pos 22500000) (pos 30000000) ≡ given 0)
+    ∷ (cellCall 1 (pos 22500000) (pos 29999999) ≡ given 2)
+    -- level 1, longitude 0: latitude 45,000,000 gives cell 1, 44,999,999 gives cell 2
+    ∷ (cellCall 1 (pos 45000000) (pos 0) ≡ given 1)
+    ∷ (cellCall 1 (pos 44999999) (pos 0) ≡ given 2)
+    -- the centre of cell 7 at level 0 is −30,000,000, −45,000,000; that of cell 2 at level 1 is 15,000,000, 18,000,000
+    ∷ (centreCall 0 7 ≡ given (negℤ (pos 30000000), negℤ (pos 45000000)))
+    ∷ (centreCall 1 2 ≡ given (pos 15000000, pos 18000000))
     ∷ []

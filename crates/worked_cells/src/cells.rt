@@ -14,60 +14,12 @@ pub fn show() {
     show_place(14, 0x7fff_ffff);
     show_place(14, 0x8000_0000);
     show_place(15, 0);
-    show_number(
-        4,
-        Place {
-            octant: 0,
-            kind: Kind::Down,
-            row: 3,
-            col: 9,
-        },
-    );
-    show_number(
-        4,
-        Place {
-            octant: 0,
-            kind: Kind::Up,
-            row: 10,
-            col: 3,
-        },
-    );
-    show_number(
-        0,
-        Place {
-            octant: 7,
-            kind: Kind::Up,
-            row: 0,
-            col: 0,
-        },
-    );
-    show_number(
-        0,
-        Place {
-            octant: 7,
-            kind: Kind::Down,
-            row: 0,
-            col: 0,
-        },
-    );
-    show_number(
-        4,
-        Place {
-            octant: 8,
-            kind: Kind::Up,
-            row: 0,
-            col: 0,
-        },
-    );
-    show_number(
-        15,
-        Place {
-            octant: 0,
-            kind: Kind::Up,
-            row: 0,
-            col: 0,
-        },
-    );
+    show_number(4, 0, Kind::Down, 3, 9);
+    show_number(4, 0, Kind::Up, 10, 3);
+    show_number(0, 7, Kind::Up, 0, 0);
+    show_number(0, 7, Kind::Down, 0, 0);
+    show_number(4, 8, Kind::Up, 0, 0);
+    show_number(15, 0, Kind::Up, 0, 0);
     show_source_003(address::read(b"03023"));
     show_source_003(address::read(b"01003"));
 }
@@ -99,7 +51,13 @@ fn show_place(level: u32, cell: u32) {
     print::text(b"\n");
 }
 
-fn show_number(level: u32, place: Place) {
+fn show_number(level: u32, octant: u32, kind: Kind, row: u32, col: u32) {
+    let place = Place {
+        octant,
+        kind,
+        row,
+        col,
+    };
     print::labelled(b"level ", level);
     print::text(b" ");
     print_place(place);

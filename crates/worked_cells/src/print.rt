@@ -16,3 +16,13 @@ pub fn labelled(label: &[u8], n: u32) {
 pub fn refused(n: u8) {
     labelled(b"refused ", n as u32);
 }
+
+// A number, with a minus sign where it is below zero.
+pub fn signed(n: i32) {
+    if n < 0 {
+        text(b"-");
+        number((-1 - n) as u32 + 1);
+    } else {
+        number(n as u32);
+    }
+}

@@ -1,0 +1,63 @@
+-- `code_between` meets its contract: a refused place is refused by the same number, the first before the second, and a given place occurs.
+-- Assumes nothing.
+use mathlib.Core.Path.{sym, _∙_}
+use borrow.Author.Needs.{needs}
+use Rattle.cell.specs.Cell.{placeOf}
+use Rattle.step.proofs.Calls.{Given, given-place, refused-from, refused-to, given-code}
+use Rattle.step.proofs.code_between.Statement.{statement}
+use Rattle.step.proofs.code_between.Tie as tie
+
+place-of-requires : tie.Need-place-of-requires
+place-of-requires c κs = search needs
+
+enum-known-number : tie.Need-enum-known-number
+enum-known-number c = search needs
+
+enum-known-here : tie.Need-enum-known-here
+enum-known-here c = search needs
+
+place-of-requires-2 : tie.Need-place-of-requires-2
+place-of-requires-2 c κs = search needs
+
+enum-known-number-2 : tie.Need-enum-known-number-2
+enum-known-number-2 c = search needs
+
+enum-known-there : tie.Need-enum-known-there
+enum-known-there c = search needs
+
+first : (c : tie.After-known-told2) → Given (c .before .before .before .before .args .level) (c .before .before .before .before .args .from) (placeOf (c .before .here .given .0 .0))
+first c = given-place _ _ _ (rw (c .before .here .given .1) at (c .before .before .before .place-of .ensures))
+
+second : (c : tie.After-known-told4) → let a = c .before .before .before .before .before .before .before .before .args in Given (a .level) (a .to) (placeOf (c .before .there .given .0 .0))
+second c = given-place _ _ _ (rw (c .before .there .given .1) at (c .before .before .before .place-of2 .ensures))
+
+find-code-requires : tie.Need-find-code-requires
+find-code-requires c κs = let f = first (c .before .before .before .before) in (f .low, f .occurs, second c .occurs)
+
+returns : tie.Need-returns
+returns c = let a = c .before .before .before .before .args in refused-from (a .level) (a .from) (a .to) _ (rw (c .before .number .given .1) at (c .before .before .before .place-of .ensures))
+
+returns-2 : tie.Need-returns-2
+returns-2 c =
+    let a = c .before .before .before .before .before .before .before .before .args in
+    refused-to (a .level) (a .from) (a .to) _ _ (first (c .before .before .before .before)) (rw (c .before .number2 .given .1) at (c .before .before .before .place-of2 .ensures))
+
+returns-3 : tie.Need-returns-3
+returns-3 c =
+    let a = c .before .before .before .before .before .before .before .before .before .args in
+    c .find-code .ensures ∙ sym (given-code (a .level) (a .from) (a .to) _ _ (first (c .before .before .before .before .before)) (second (c .before)))
+
+pub code-between-spec : {M : Type 1} → statement M
+code-between-spec =
+    tie.close
+    (tie.spec
+    place-of-requires
+    enum-known-number
+    enum-known-here
+    place-of-requires-2
+    enum-known-number-2
+    enum-known-there
+    find-code-requires
+    returns
+    returns-2
+    returns-3)

@@ -1,0 +1,14 @@
+-- `only` meets its contract, by the test that each branch took.
+-- Assumes nothing.
+use borrow.Author.Needs.{needs}
+use Rattle.step.proofs.only.Statement.{statement}
+use Rattle.step.proofs.only.Tie as tie
+
+returns : tie.Need-returns
+returns c = simp (c .if1 .taken)
+
+returns-2 : tie.Need-returns-2
+returns-2 c = search needs
+
+pub only-spec : {M : Type 1} → statement M
+only-spec = tie.close (tie.spec returns returns-2)

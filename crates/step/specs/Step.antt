@@ -1,0 +1,117 @@
+-- Steps and codes (document 01, "Steps and codes"). The codes 0 to 7 are t, l, r, e, w, T, E, W. At level k, N is 2 ^ k.
+use Prim.Native.Nat.{ℕ, zero, suc, _+_, _*_, _-_, _/_, _%_, _^_}
+use mathlib.Core.Bool.{Bool, true, false}
+use mathlib.Core.List.{List, [], _∷_, map}
+use mathlib.Core.Option.{Option, none, some}
+use lib.Dec.{leb, ltb, eqb}
+use lib.ListN.{getD}
+use Rattle.refusal.specs.Answer.{Answer, given, refused, _when_, unless}
+use Rattle.cell.specs.Cell.{Frame, up, down, span, Place, place, number, maxLevel}
+use Rattle.step.specs.declared.StepAnswer.{StepAnswer}
+use Rattle.step.specs.declared.StepAnswer.the-variants as step-answer
+use Rattle.step.specs.declared.CodeAnswer.{CodeAnswer}
+use Rattle.step.specs.declared.CodeAnswer.the-variants as code-answer
+
+-- ---- octants
+
+-- the octant in the other hemisphere
+unfoldable pub across : ℕ → ℕ
+across o = (o + 4) % 8
+
+-- the octant to the east: 0, 1, 2, 3, 0 and 4, 5, 6, 7, 4; and to the west, the other way round
+unfoldable pub east : ℕ → ℕ
+east o = o / 4 * 4 + (o + 1) % 4
+
+unfoldable pub west : ℕ → ℕ
+west o = o / 4 * 4 + (o + 3) % 4
+
+-- ---- one step
+
+-- what is found with one less than n, where n is not 0
+abbrev pub less : {A : Type 0} → ℕ → (ℕ → A) → Option A
+less zero f = none
+less (suc n) f = some (f n)
+
+-- what is found where a test holds
+abbrev pub only : {A : Type 0} → Bool → A → Option A
+only true x = some x
+only false x = none
+
+-- a frame, where it lies inside the octant at level k
+abbrev pub inside : ℕ → ℕ → Option Frame → Option Place
+inside k o none = none
+inside k o (some f) = only (leb (span f) (2 ^ k)) (o, f)
+
+-- the steps from a place of octant o, for the codes t, l, r, e, w, T, E, W in turn
+unfoldable pub steps : ℕ → ℕ → Frame → List (Option Place)
+steps k o (up a b) =
+    inside k o (less a (λ a′. down a′ b))
+    ∷ inside k o (less b (λ b′. down a b′))
+    ∷ inside k o (some (down a b))
+    ∷ inside k o (some (up a (b + 1)))
+    ∷ inside k o (less b (λ b′. up a b′))
+    ∷ only (eqb a 0) (across o, up a b)
+    ∷ only (eqb (a + b + 1) (2 ^ k)) (east o, up a 0)
+    ∷ only (eqb b 0) (west o, up a (2 ^ k - 1 - a))
+    ∷ []
+steps k o (down a b) =
+    inside k o (some (up (a + 1) b))
+    ∷ inside k o (some (up a b))
+    ∷ inside k o (some (up a (b + 1)))
+    ∷ inside k o (some (down a (b + 1)))
+    ∷ inside k o (less b (λ b′. down a b′))
+    ∷ none
+    ∷ none
+    ∷ none
+    ∷ []
+
+-- the step along a code; there is none along a code above 7
+unfoldable pub step : ℕ → Place → ℕ → Option Place
+step k p code = getD (steps k (p .0) (p .1)) code none
+
+-- ---- the two calls
+
+-- 7 where nothing is found
+abbrev pub found : {A B : Type 0} → (A → B) → Option A → Answer B
+found f none = refused 7
+found f (some x) = given (f x)
+
+-- step along a code: refused 1, 4, 7
+abbrev pub stepCall : ℕ → ℕ → ℕ → Answer ℕ
+stepCall k n code = unless (1 when ltb maxLevel k) (unless (4 when leb (8 * 4 ^ k) n) (found (number k) (step k (place k n) code)))
+
+-- whether a step leads to cell n
+abbrev pub leads : ℕ → ℕ → Option Place → Bool
+leads k n none = false
+leads k n (some p) = eqb (number k p) n
+
+-- where the first true stands in a list
+unfoldable pub firstTrue : List Bool → Option ℕ
+firstTrue [] = none
+firstTrue (b ∷ bs) = pick b (firstTrue bs)
+  where
+    pick : Bool → Option ℕ → Option ℕ
+    pick true rest = some 0
+    pick false none = none
+    pick false (some i) = some (suc i)
+
+-- the code along which the step from a place leads to cell n
+unfoldable pub codeTo : ℕ → ℕ → Place → Option ℕ
+codeTo k n p = firstTrue (map (leads k n) (steps k (p .0) (p .1)))
+
+-- code between two cells: refused 1, 4, 7
+abbrev pub codeCall : ℕ → ℕ → ℕ → Answer ℕ
+codeCall k m n =
+    unless (1 when ltb maxLevel k)
+    (unless (4 when leb (8 * 4 ^ k) m)
+    (unless (4 when leb (8 * 4 ^ k) n)
+    (found (λ (c : ℕ). c) (codeTo k n (place k m)))))
+
+-- what the code's answers say
+abbrev pub saidStep : StepAnswer → Answer ℕ
+saidStep (step-answer.To n) = given n
+saidStep (step-answer.Refused n) = refused n
+
+abbrev pub saidCode : CodeAnswer → Answer ℕ
+saidCode (code-answer.Along c) = given c
+saidCode (code-answer.Refused n) = refused n
