@@ -1,0 +1,25 @@
+// Sets of cells as bits of bytes: document 01, "Masks".
+ghost use mathlib.Core.Path.{_≡_};
+ghost use Rattle.bitset.specs.Bits.{marked, marking};
+
+// Whether a cell is marked. Past the end of the mask none is.
+pub fn is_marked(mask: &[u8], cell: u32) -> bool
+    ensures { λ r. ⌜ r ≡ marked (now (mask .entry)) cell ⌝ }
+{
+    let i = (cell / 8) as usize;
+    if mask.len() <= i {
+        return false;
+    }
+    (mask[i] >> (cell % 8)) % 2 == 1
+}
+
+// Marks a cell. Past the end of the mask there is none to mark.
+pub fn mark(mask: &mut [u8], cell: u32)
+    ensures { λ _. ⌜ now (mask .exit) ≡ marking (now (mask .entry)) cell ⌝ }
+{
+    let at = (cell / 8) as usize;
+    if mask.len() <= at {
+        return;
+    }
+    mask[at] = mask[at] | (1 << (cell % 8));
+}

@@ -1,0 +1,4 @@
+pub mod Mask
+pub mod Spread
+pub mod Grow
+pub mod Growings

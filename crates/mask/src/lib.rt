@@ -1,0 +1,149 @@
+// Masks of cells: document 01, "Masks".
+ghost use mathlib.Core.Path.{_≡_};
+ghost use mathlib.Core.Bool.{true, false};
+ghost use mathlib.Core.List.{List};
+ghost use Prim.Native.Nat.{ℕ, _*_, _^_, _≤_, _<_};
+ghost use lib.ListN.{length};
+ghost use Rattle.refusal.specs.Answer.{Answer};
+ghost use Rattle.bitset.specs.Bits.{marked, bytesOf, size};
+ghost use Rattle.mask.specs.Mask.{union, difference, joinCall, countCall, withinCall, saidJoin, saidCount, saidWithin};
+
+mod rings;
+
+pub use rings::GrowAnswer;
+pub use rings::grow;
+pub use rings::shrink;
+
+pub type CellNumber = u32;
+
+// The highest level of masks and charts.
+pub const MAX_MASK_LEVEL: u32 = 8;
+
+pub enum JoinAnswer {
+    Joined,
+    Refused(u8),
+}
+
+pub enum CountAnswer {
+    Count(u32),
+    Refused(u8),
+}
+
+pub enum WithinAnswer {
+    Within,
+    Lacks(CellNumber),
+    Refused(u8),
+}
+
+// The bytes of a mask of a level.
+fn mask_bytes(level: u32) -> usize
+    requires { ⌜ level ≤ 8 ⌝ }
+    ensures { λ r. ⌜ r ≡ 4 ^ level ⌝ }
+{
+    1 << (2 * level)
+}
+
+// The ones of each byte summed.
+fn sum_ones(mask: &[u8]) -> u32
+    requires { ⌜ length (now mask) ≤ 65536 ⌝ }
+    ensures { λ r. ⌜ r ≡ size (8 * length (now (mask .entry))) (marked (now (mask .entry))) ⌝ }
+{
+    let mut sum = 0;
+    let mut i = 0;
+    while i < mask.len() {
+        sum += u8::count_ones(mask[i]);
+        i += 1;
+    }
+    sum
+}
+
+// How many cells are marked.
+pub fn count(level: u32, mask: &[u8]) -> CountAnswer
+    ensures { λ r. ⌜ saidCount r ≡ countCall level (now (mask .entry)) ⌝ }
+{
+    if MAX_MASK_LEVEL < level {
+        return CountAnswer::Refused(refusal::LEVEL);
+    }
+    if mask.len() != mask_bytes(level) {
+        return CountAnswer::Refused(refusal::LENGTH);
+    }
+    CountAnswer::Count(sum_ones(mask))
+}
+
+// The lowest cell that is marked in the first mask and not in the second, or the number past the last cell where there is none.
+// Document 01 asks for a byte scan with a bit scan inside, left by a label at the first cell that lacks.
+fn first_lacking(a: &[u8], b: &[u8]) -> CellNumber
+    requires { ⌜ (length (now a) ≤ 65536) × (length (now b) ≡ length (now a)) ⌝ }
+    ensures none_below { λ r. ⌜ ((c : ℕ) → c < r → difference (marked (now (a .entry))) (marked (now (b .entry))) c ≡ false) ⌝ }
+    ensures there { λ r. ⌜ (r < 8 * length (now (a .entry)) → difference (marked (now (a .entry))) (marked (now (b .entry))) r ≡ true) ⌝ }
+{
+    let mut cell = 0;
+    let mut i = 0;
+    'bytes: while i < a.len() {
+        let mut j: u32 = 0;
+        while j < 8 {
+            if (a[i] >> j) % 2 == 1 && (b[i] >> j) % 2 == 0 {
+                break 'bytes;
+            }
+            j += 1;
+            cell += 1;
+        }
+        i += 1;
+    }
+    cell
+}
+
+// Whether the first mask lies within the second, and if not, the lowest cell that does not.
+pub fn within(level: u32, a: &[u8], b: &[u8]) -> WithinAnswer
+    ensures { λ r. ⌜ saidWithin r ≡ withinCall level (now (a .entry)) (now (b .entry)) ⌝ }
+{
+    if MAX_MASK_LEVEL < level {
+        return WithinAnswer::Refused(refusal::LEVEL);
+    }
+    let bytes = mask_bytes(level);
+    if a.len() != bytes {
+        return WithinAnswer::Refused(refusal::LENGTH);
+    }
+    if b.len() != bytes {
+        return WithinAnswer::Refused(refusal::LENGTH);
+    }
+    let cell = first_lacking(a, b);
+    if (cell as usize) < 8 * bytes {
+        WithinAnswer::Lacks(cell)
+    } else {
+        WithinAnswer::Within
+    }
+}
+
+// Byte by byte, the bits of either mask.
+fn join_bytes(a: &[u8], b: &[u8], out: &mut [u8])
+    requires { ⌜ (length (now a) ≡ length (now out)) × (length (now b) ≡ length (now out)) ⌝ }
+    ensures { λ _. ⌜ now (out .exit) ≡ bytesOf (length (now (out .entry))) (union (marked (now (a .entry))) (marked (now (b .entry)))) ⌝ }
+{
+    let mut i = 0;
+    while i < out.len() {
+        out[i] = a[i] | b[i];
+        i += 1;
+    }
+}
+
+// Marks in a third mask exactly the cells that either of two masks marks.
+pub fn join(level: u32, a: &[u8], b: &[u8], out: &mut [u8]) -> JoinAnswer
+    ensures { λ r. ⌜ _≡_ {A = Answer (Unit {0}) × List ℕ} (saidJoin r, now (out .exit)) (joinCall level (now (a .entry)) (now (b .entry)) (now (out .entry))) ⌝ }
+{
+    if MAX_MASK_LEVEL < level {
+        return JoinAnswer::Refused(refusal::LEVEL);
+    }
+    let size = mask_bytes(level);
+    if a.len() != size {
+        return JoinAnswer::Refused(refusal::LENGTH);
+    }
+    if b.len() != size {
+        return JoinAnswer::Refused(refusal::LENGTH);
+    }
+    if out.len() != size {
+        return JoinAnswer::Refused(refusal::LENGTH);
+    }
+    join_bytes(a, b, out);
+    JoinAnswer::Joined
+}

@@ -1,0 +1,13 @@
+pub mod Signed
+pub mod Calls
+pub mod Sides
+pub mod Cubes
+pub mod Corners
+pub mod Ways
+pub mod Sorted
+pub mod Counts
+pub mod Collect
+pub mod Listed
+pub mod Points
+pub mod Laws
+pub mod Walks

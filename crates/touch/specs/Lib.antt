@@ -1,0 +1,3 @@
+pub mod Touch
+pub mod Steps
+pub mod Cube
