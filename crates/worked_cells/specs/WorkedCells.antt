@@ -1,4 +1,4 @@
--- The cells that document 01 works out and marks with a star ("Cells worked out"), as one list of statements over the calls' own definitions.
+-- The cells and masks that document 01 works out and marks with a star ("Cells worked out"), as one list of statements over the calls' own definitions.
 use mathlib.Core.Path.{_≡_}
 use mathlib.Core.List.{List, [], _∷_}
 use lib.IntN.{pos, negℤ}
@@ -6,6 +6,7 @@ use Rattle.refusal.specs.Answer.{given}
 use Rattle.cell.specs.Cell.{up, down, placeCall}
 use Rattle.position.specs.Position.{cellCall, centreCall}
 use Rattle.step.specs.Step.{stepCall}
+use Rattle.mask.specs.Grow.{growCall, shrinkCall}
 
 -- each statement of a list holds
 abbrev pub All : List (Type 0) → Type 0
@@ -32,4 +33,8 @@ workedCells =
     -- the centre of cell 7 at level 0 is −30,000,000, −45,000,000; that of cell 2 at level 1 is 15,000,000, 18,000,000
     ∷ (centreCall 0 7 ≡ given (negℤ (pos 30000000), negℤ (pos 45000000)))
     ∷ (centreCall 1 2 ≡ given (pos 15000000, pos 18000000))
+    -- level 0: the mask of cell 0 (byte 1) grown once is byte 191, grown twice 255; byte 191 shrunk once is byte 1
+    ∷ (growCall 0 1 (1 ∷ []) (0 ∷ []) (0 ∷ []) ≡ (given tt, (191 ∷ [], 0 ∷ [])))
+    ∷ (growCall 0 2 (1 ∷ []) (0 ∷ []) (0 ∷ []) ≡ (given tt, (255 ∷ [], 0 ∷ [])))
+    ∷ (shrinkCall 0 1 (191 ∷ []) (0 ∷ []) (0 ∷ []) ≡ (given tt, (1 ∷ [], 0 ∷ [])))
     ∷ []
