@@ -1,19 +1,19 @@
 -- Demand 3 of document 01, over the definitions that the contracts of `grow`, `shrink`, `join` and `within` cite. Assumes nothing.
-use Prim.Native.Nat.{ℕ, zero, suc, _+_, _*_, _^_, _≤_, _<_}
+use Prim.Native.Nat.{ℕ, zero, suc, _+_, _^_, _≤_, _<_}
 use mathlib.Core.Path.{_≡_, refl, sym, ap, ap₂, subst, _∙_}
 use mathlib.Core.Bool.{Bool, true, false, _&&_, _||_, not, cond}
 use mathlib.Core.List.{List, [], _∷_}
 use mathlib.Core.Logic.{_⊎_, inl, inr, ⊎-elim, _↔_}
 use native.Mathlib.Nat.{zero-add, eq-or-lt-of-le, add-assoc, add-comm, add-zero, pow-suc, pow-le-pow-right, one-le-pow}
 use native.Mathlib.Omega.{arith}
-use borrow.Author.Tests.{ltb-true, ltb-false, lt-ltb, le-ltb, eq-eqb, eqb-true, eqb-false, not-false}
+use borrow.Author.Tests.{ltb-true, ltb-false, lt-ltb, le-ltb, eq-eqb, eqb-true, eqb-false}
 use lib.Dec.{ltb, eqb}
 use lib.ListN.{length, replicate}
-use Rattle.refusal.specs.Answer.{Answer, given, refused, Test, _when_, inOrder, inOrderLent}
+use Rattle.refusal.specs.Answer.{Answer, given, refused, Test, _when_}
 use Rattle.bitset.specs.Bits.{marked, bytesOf}
-use Rattle.bitset.proofs.Laws.{Bytes, length-bytesOf, bytes-bytesOf, marked-bytesOf, bytesOf-cong, bytesOf-marked}
+use Rattle.bitset.proofs.Laws.{Bytes, length-bytesOf, marked-bytesOf, bytesOf-cong, bytesOf-marked}
 use Rattle.touch.specs.Touch.{touches}
-use Rattle.touch.specs.Steps.{Within, Reach}
+use Rattle.touch.specs.Steps.{Reach}
 use Rattle.touch.proofs.Laws.{touches-symmetric}
 use Rattle.touch.proofs.Walks.{within-reach}
 use Rattle.mask.specs.Mask.{cells, union, joinCall, Inclusion, yes, lacks, lowest, difference, withinCall}
@@ -21,7 +21,7 @@ use Rattle.mask.specs.Spread.{reach, grown, shrunk}
 use Rattle.mask.specs.Grow.{grownCells, shrunkCells, spreadTests, firstRefusal, growCall, shrinkCall}
 use Rattle.mask.specs.Growings.{touchingStep, WithinSteps, Growing, growing, maskAfter, ringsAdded, next, after, ringsOf}
 use Rattle.mask.proofs.Laws.{lowest-none}
-use Rattle.mask.proofs.Spread.{Is, no, both, parts, reach-zero, reach-stay, reach-step, reach-out, reach-sym, grown-in, grown-out, grown-adds, grown-cong, grown-zero, grown-grown, grown-union, shrunk-in, shrunk-out, grown-shrunk}
+use Rattle.mask.proofs.Spread.{Is, both, parts, reach-zero, reach-stay, reach-step, reach-out, reach-sym, grown-in, grown-out, grown-adds, grown-cong, grown-zero, grown-grown, grown-union, shrunk-in, shrunk-out, grown-shrunk}
 use Rattle.mask.proofs.Tests.{refuses, Accepted, accepted, accepts}
 
 -- ---- steps of the paper, by lists of cells, and steps of the definitions

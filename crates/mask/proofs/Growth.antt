@@ -1,6 +1,6 @@
 -- Ring by ring: what the last ring reached is enough to find the next. Assumes nothing.
-use Prim.Native.Nat.{ℕ, zero, suc, _+_, _*_, _^_, _≤_, _<_}
-use mathlib.Core.Path.{_≡_, refl, sym, ap, ap₂, subst, _∙_}
+use Prim.Native.Nat.{ℕ, zero, suc, _+_, _*_, _^_, _<_}
+use mathlib.Core.Path.{_≡_, refl, sym, ap, ap₂, _∙_}
 use mathlib.Core.Bool.{Bool, true, false, _&&_, _||_, not}
 use mathlib.Core.List.{List}
 use mathlib.Core.Logic.{_⊎_, inl, inr, ⊎-elim}
@@ -15,7 +15,7 @@ use Rattle.touch.proofs.Laws.{touches-symmetric}
 use Rattle.mask.specs.Mask.{cells}
 use Rattle.mask.specs.Spread.{some, grown}
 use Rattle.mask.specs.Grow.{newest, beside, grownCells, shrunkCells, Ringed}
-use Rattle.mask.proofs.Spread.{Is, same-test, both, parts, left, right, cases, no, some-in, some-out, some-cong, grown-more, grown-cong, grown-zero, grown-step, shrunk-grown}
+use Rattle.mask.proofs.Spread.{Is, same-test, both, parts, left, right, cases, some-in, some-out, some-cong, grown-more, grown-cong, grown-zero, grown-step, shrunk-grown}
 
 module _ (M : ℕ) (R : ℕ → ℕ → Bool) (back : (c d : ℕ) → R c d ≡ R d c) (A : ℕ → Bool) where
   -- what ring j alone reached

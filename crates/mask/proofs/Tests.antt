@@ -1,14 +1,13 @@
 -- A call's tests, and the number of the first that applies. Assumes nothing.
-use Prim.Native.Nat.{ℕ, zero, _*_, _^_, _≤_}
-use mathlib.Core.Path.{_≡_, refl, _∙_}
+use Prim.Native.Nat.{ℕ, _^_, _≤_}
+use mathlib.Core.Path.{_≡_, refl, sym, ap, _∙_}
 use mathlib.Core.Bool.{Bool, true, false, not}
 use mathlib.Core.List.{List, [], _∷_}
 use native.Mathlib.Omega.{arith}
-use borrow.Author.Tests.{ltb-false, eqb-true, not-false}
+use borrow.Author.Tests.{ltb-false, eqb-true}
 use lib.Dec.{ltb, eqb}
 use lib.ListN.{length}
-use Rattle.refusal.specs.Answer.{Answer, given, refused, Test, _when_, inOrderLent}
-use Rattle.mask.specs.Mask.{badLevel, badLength}
+use Rattle.refusal.specs.Answer.{given, refused, Test, _when_, inOrderLent}
 use Rattle.mask.specs.Grow.{firstRefusal, spreadTests}
 
 -- where a test applies, the call is refused by its number, and all slices stay
@@ -17,6 +16,10 @@ unfolding firstRefusal
 refuses [] stays leaves a h = absurd (h refl)
 refuses ((n when true) ∷ ts) stays leaves a h = refl
 refuses ((n when false) ∷ ts) stays leaves a h = refuses ts stays leaves a h
+
+-- the same of a number that is known to be the first's
+pub refused-by : {A S : Type 0} (ts : List Test) (stays leaves : S) (a : A) (n : ℕ) → n ≡ firstRefusal ts → (n ≡ 0 → ⊥) → (refused n, stays) ≡ inOrderLent ts stays a leaves
+refused-by ts stays leaves a n e h = ap (λ (i : ℕ). (refused i, stays)) e ∙ sym (refuses ts stays leaves a (λ z. h (e ∙ z)))
 
 -- no test has the number 0
 abbrev Numbered : List Test → Type 0

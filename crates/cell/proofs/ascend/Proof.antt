@@ -1,14 +1,13 @@
 -- `ascend` meets its contract. The invariant: with `done` digits taken off, they are the number `digits` below 4^done, and the place's digits are those of what is left, above them.
 -- The measure is the number of digits left. Assumes nothing.
-use Prim.Native.Nat.{ℕ, suc, _≤_, _<_, _-_, _+_, _*_, _/_, _^_}
-use mathlib.Core.Path.{_≡_, refl, ap, sym, _∙_}
+use Prim.Native.Nat.{_≤_, _<_, _-_, _+_, _*_, _^_}
+use mathlib.Core.Path.{_≡_, refl, ap}
 use native.Mathlib.Numerals.{add-one}
 use native.Mathlib.Omega.{arith}
-use native.Mathlib.Nat.{le-trans, pow-le-pow-right, pow-suc, sub-zero}
+use native.Mathlib.Nat.{pow-le-pow-right, pow-suc, sub-zero}
 use lib.Arith.{digits-lt}
-use borrow.Author.Needs.{needs}
 use Rattle.cell.specs.Cell as Cell
-use Rattle.cell.specs.Cell.{placeOf, origin, number}
+use Rattle.cell.specs.Cell.{placeOf, number}
 use Rattle.cell.proofs.Laws.{digits-more, digit-weight}
 use Rattle.cell.proofs.ascend.Statement.{statement}
 use Rattle.cell.proofs.ascend.Tie as tie

@@ -1,12 +1,12 @@
 -- `descend` meets its contract. The invariant: with `left` digits still to come, the place is the one that the digits above them lead to.
 -- The measure is `left`. Assumes nothing.
-use Prim.Native.Nat.{ℕ, suc, _≤_, _<_, _-_, _/_, _^_}
-use mathlib.Core.Path.{_≡_, refl, ap, sym, _∙_}
+use Prim.Native.Nat.{suc, _≤_, _-_, _/_, _^_}
+use mathlib.Core.Path.{_≡_, ap, _∙_}
 use native.Mathlib.Omega.{arith}
 use native.Mathlib.Nat.{le-trans, sub-zero, pow-zero, div-one}
 use lib.Pow.{pow-mono}
 use borrow.Author.Needs.{needs}
-use Rattle.cell.specs.Cell.{Place, placeOf, place, frame, child, span}
+use Rattle.cell.specs.Cell.{Place, placeOf, place, frame, span}
 use Rattle.cell.proofs.Laws.{shift-four, frame-bounds, frame-more, frame-span}
 use Rattle.cell.proofs.descend.Statement.{statement}
 use Rattle.cell.proofs.descend.Tie as tie

@@ -1,12 +1,12 @@
 -- `grow` meets its contract: refused as `refusal_of` says, and otherwise both masks begin with the cells marked and spread. Assumes nothing.
 use Prim.Native.Nat.{ℕ, _^_}
-use mathlib.Core.Path.{_≡_, sym, ap, ap₂, _∙_}
+use mathlib.Core.Path.{sym, ap, ap₂, _∙_}
 use mathlib.Core.List.{List}
 use lib.ListN.{length}
-use Rattle.refusal.specs.Answer.{Answer, given, refused}
+use Rattle.refusal.specs.Answer.{given}
 use Rattle.bitset.specs.Bits.{marked, bytesOf}
 use Rattle.mask.specs.Grow.{grownCells, spreadTests}
-use Rattle.mask.proofs.Tests.{refuses, accepts, Accepted, accepted}
+use Rattle.mask.proofs.Tests.{refused-by, accepts, Accepted, accepted}
 use borrow.Author.Needs.{needs}
 use Rattle.mask.proofs.rings.grow.Statement.{statement}
 use Rattle.mask.proofs.rings.grow.Tie as tie
@@ -23,8 +23,7 @@ same-length-2 c = search needs
 returns : tie.Need-returns
 returns c =
     let a = c .before .before .before .before .before .before .before .args in
-    let e = c .before .refusal-of .ensures in
-    ap (λ (n : ℕ). (refused n, (a .out .now, a .work .now))) e ∙ sym (refuses (spreadTests (a .level) (a .rings) (a .mask .now) (a .out .now) (a .work .now)) _ _ tt (λ z. c .if1 .taken (e ∙ z)))
+    refused-by (spreadTests (a .level) (a .rings) (a .mask .now) (a .out .now) (a .work .now)) (a .out .now, a .work .now) _ tt _ (c .before .refusal-of .ensures) (c .if1 .taken)
 
 -- what is known where the call is not refused
 passed : (c : tie.Else1) → Accepted (c .before .before .before .before .before .before .before .args .level) (c .before .before .before .before .before .before .before .args .rings) (c .before .before .before .before .before .before .before .args .mask .now) (c .before .before .before .before .before .before .before .args .out .now) (c .before .before .before .before .before .before .before .args .work .now)

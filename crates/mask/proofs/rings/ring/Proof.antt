@@ -1,5 +1,4 @@
 -- `ring` meets its contract: a scan and a settling make one ring. Assumes nothing.
-use mathlib.Core.Path.{sym, _∙_}
 use Rattle.mask.proofs.Reached.{ringed}
 use borrow.Author.Needs.{needs}
 use Rattle.mask.proofs.rings.ring.Statement.{statement}

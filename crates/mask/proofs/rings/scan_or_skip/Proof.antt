@@ -1,5 +1,4 @@
 -- `scan_or_skip` meets its contract: a byte that is 0 holds no cell that the last ring reached. Assumes nothing.
-use native.Mathlib.Omega.{arith}
 use Rattle.mask.proofs.Reached.{scanned-zero}
 use borrow.Author.Needs.{needs}
 use Rattle.mask.proofs.rings.scan_or_skip.Statement.{statement}

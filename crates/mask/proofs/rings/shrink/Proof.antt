@@ -4,11 +4,11 @@ use mathlib.Core.Path.{_≡_, sym, ap, ap₂, subst, _∙_}
 use mathlib.Core.List.{List}
 use mathlib.Core.Bool.{not}
 use lib.ListN.{length}
-use Rattle.refusal.specs.Answer.{Answer, given, refused}
+use Rattle.refusal.specs.Answer.{given}
 use Rattle.bitset.specs.Bits.{marked}
 use Rattle.mask.specs.Grow.{spreadTests}
 use Rattle.mask.proofs.Growth.{shrunk-bytes}
-use Rattle.mask.proofs.Tests.{refuses, accepts, Accepted, accepted}
+use Rattle.mask.proofs.Tests.{refused-by, accepts, Accepted, accepted}
 use borrow.Author.Needs.{needs}
 use Rattle.mask.proofs.rings.shrink.Statement.{statement}
 use Rattle.mask.proofs.rings.shrink.Tie as tie
@@ -25,8 +25,7 @@ same-length-2 c = search needs
 returns : tie.Need-returns
 returns c =
     let a = c .before .before .before .before .before .before .before .args in
-    let e = c .before .refusal-of .ensures in
-    ap (λ (n : ℕ). (refused n, (a .out .now, a .work .now))) e ∙ sym (refuses (spreadTests (a .level) (a .rings) (a .mask .now) (a .out .now) (a .work .now)) _ _ tt (λ z. c .if1 .taken (e ∙ z)))
+    refused-by (spreadTests (a .level) (a .rings) (a .mask .now) (a .out .now) (a .work .now)) (a .out .now, a .work .now) _ tt _ (c .before .refusal-of .ensures) (c .if1 .taken)
 
 turned-of : {l m : List ℕ} (t : List ℕ) → l ≡ m → ((c : ℕ) → c < 8 * length l → marked t c ≡ not (marked l c)) → (c : ℕ) → c < 8 * length m → marked t c ≡ not (marked m c)
 turned-of {l} {m} t e h = subst (λ (x : List ℕ). (c : ℕ) → c < 8 * length x → marked t c ≡ not (marked x c)) e h

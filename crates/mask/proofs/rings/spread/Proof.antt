@@ -1,7 +1,7 @@
 -- `spread` meets its contract. The invariant: after `done` rings the first mask marks the cells within as many steps, the second those of the last ring.
 -- The measure is the number of rings left. Assumes nothing.
 use Prim.Native.Nat.{ℕ, _*_, _%_, _^_, _≤_, _-_}
-use mathlib.Core.Path.{_≡_, refl, sym, ap, subst, _∙_}
+use mathlib.Core.Path.{_≡_, sym, ap, subst, _∙_}
 use mathlib.Core.List.{List}
 use native.Mathlib.Omega.{arith}
 use borrow.Author.Needs.{needs}
