@@ -13,7 +13,7 @@ use borrow.Author.Tests.{ltb-true, ltb-false, eq-eqb, ne-eqb, eqb-true, eqb-fals
 use lib.Bits.{bitOr, or-step, or-shr, or-lt}
 use lib.Count.{ones, ones-cat}
 use lib.Dec.{eqb, ltb}
-use lib.ListN.{length, getD, set, replicate, length-append, length-set, length-replicate, List·getD-eq-default, List·getD-append}
+use lib.ListN.{length, getD, set, replicate, length-append, List·getD-eq-default, List·getD-append}
 use lib.Pow.{pow-pos, pow-mono, pow-lt, pow-add, split, high, low}
 use lib.Seq.{ext-getD, getD-at, getD-set-same, getD-set-other, set-out, set-getD}
 use Rattle.bitset.specs.Bits.{bit, marked, bitsOf, bytesOf, size, marking}
@@ -250,9 +250,6 @@ marked-bytesOf n P c h =
     let e : 8 * (c / 8) + c % 8 ≡ c = omega arith in
     rw (byte-bytesOf n P (c / 8) (omega arith)) (bit-bitsOf 8 (λ j. P (8 * (c / 8) + j)) (c % 8) (omega arith) ∙ ap P e)
 
-pub bytesOf-past : (n : ℕ) (P : ℕ → Bool) (c : ℕ) → 8 * n ≤ c → marked (bytesOf n P) c ≡ false
-bytesOf-past n P c h = marked-past (bytesOf n P) c (omega (arith, length-bytesOf n P))
-
 -- byte by byte
 pub bytes-are : (n : ℕ) (s : List ℕ) (P : ℕ → Bool) → length s ≡ n → ((i : ℕ) → i < n → getD s i 0 ≡ bitsOf 8 (λ j. P (8 * i + j))) → s ≡ bytesOf n P
 bytes-are n s P e f = ext-getD 0 s (bytesOf n P) (e ∙ sym (length-bytesOf n P)) (λ i h. f i (omega arith) ∙ sym (byte-bytesOf n P i (omega arith)))
@@ -271,14 +268,6 @@ pub bytesOf-marked : (n : ℕ) (s : List ℕ) → length s ≡ n → Bytes s →
 bytesOf-marked n s e b = sym (settled n s (marked s) e b (λ c h. refl))
 
 -- ---- one cell more marked
-
-pub length-marking : (s : List ℕ) (c : ℕ) → length (marking s c) ≡ length s
-unfolding marking
-length-marking s c = go (marked s c)
-  where
-    go : (b : Bool) → length (cond b s (set s (c / 8) (getD s (c / 8) 0 + 2 ^ (c % 8)))) ≡ length s
-    go true = refl
-    go false = length-set s (c / 8) (getD s (c / 8) 0 + 2 ^ (c % 8))
 
 pub marking-past : (s : List ℕ) (c : ℕ) → 8 * length s ≤ c → marking s c ≡ s
 unfolding marking
@@ -317,14 +306,6 @@ bytes-set s i x b h k = go (ltb i (length s)) refl
     go : (t : Bool) → ltb i (length s) ≡ t → getD (set s i x) k 0 < 256
     go true e = rw (getD-set s i x k (ltb-true i (length s) e)) (one (eqb k i))
     go false e = rw (set-out s i x (ltb-false i (length s) e)) (b k)
-
-pub bytes-marking : (s : List ℕ) (c : ℕ) → Bytes s → Bytes (marking s c)
-unfolding marking marked
-bytes-marking s c b = go (bit (getD s (c / 8) 0) (c % 8)) refl
-  where
-    go : (t : Bool) → bit (getD s (c / 8) 0) (c % 8) ≡ t → Bytes (cond t s (set s (c / 8) (getD s (c / 8) 0 + 2 ^ (c % 8))))
-    go true e = b
-    go false e = bytes-set s (c / 8) (getD s (c / 8) 0 + 2 ^ (c % 8)) b (more-lt 8 (getD s (c / 8) 0) (c % 8) (b (c / 8)) (omega arith) e)
 
 -- two cells of one byte are the same where their bits are
 cell-bit : (c d : ℕ) → c / 8 ≡ d / 8 → eqb (c % 8) (d % 8) ≡ eqb c d
@@ -451,6 +432,3 @@ marked-zeros n c = rw (zeros n (c / 8)) (bit-zero (c % 8))
 
 pub bytes-zeros : (n : ℕ) → Bytes (replicate n 0)
 bytes-zeros n i = rw (zeros n i) (omega arith)
-
-pub none-marked : (n : ℕ) (s : List ℕ) → length s ≡ n → Bytes s → ((c : ℕ) → c < 8 * n → marked s c ≡ false) → s ≡ replicate n 0
-none-marked n s e b f = masks-same n s (replicate n 0) e (length-replicate n 0) b (bytes-zeros n) (λ c h. f c h ∙ sym (marked-zeros n c))

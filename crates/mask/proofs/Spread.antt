@@ -1,7 +1,7 @@
 -- Growing and shrinking by steps, over any symmetric relation on the numbers below M: one theory for every use. Assumes nothing.
 use Prim.Native.Nat.{ℕ, zero, suc, _+_, _≤_, _<_}
 use mathlib.Core.Path.{_≡_, refl, sym, ap, ap₂, subst, _∙_}
-use mathlib.Core.Bool.{Bool, true, false, _&&_, _||_, not, Bool·not-not}
+use mathlib.Core.Bool.{Bool, true, false, _&&_, _||_, not}
 use mathlib.Core.Logic.{_⊎_, inl, inr, ⊎-elim, _↔_}
 use native.Mathlib.Nat.{add-zero, add-suc, eq-or-lt-of-le, le-of-suc-le-suc}
 use native.Mathlib.Decide.{le-ind}
@@ -253,27 +253,6 @@ module _ (M : ℕ) (R : ℕ → ℕ → Bool) where
   pub shrunk-out : (m : ℕ) (A : ℕ → Bool) (c : ℕ) → Is (shrunk M R m A c) → (d : ℕ) → d < M → Is (reach M R m c d) → Is (A d)
   unfolding shrunk
   shrunk-out m A c p d h = implies (reach M R m c d) (A d) (every-at M (λ d. not (reach M R m c d) || A d) p d h)
-
-  -- so what holds of growing holds of shrinking, the other way round
-  pub shrunk-cong : (m : ℕ) (A B : ℕ → Bool) → ((d : ℕ) → d < M → A d ≡ B d) → (c : ℕ) → shrunk M R m A c ≡ shrunk M R m B c
-  shrunk-cong m A B f c =
-      shrunk-grown m A c ∙ ap not (grown-cong m (λ d. not (A d)) (λ d. not (B d)) (λ d h. ap not (f d h)) c) ∙ sym (shrunk-grown m B c)
-
-  pub shrunk-zero : (A : ℕ → Bool) (c : ℕ) → c < M → shrunk M R 0 A c ≡ A c
-  shrunk-zero A c h = shrunk-grown 0 A c ∙ ap not (grown-zero (λ d. not (A d)) c h) ∙ Bool·not-not (A c)
-
-  pub shrunk-takes : (m : ℕ) (A : ℕ → Bool) (c : ℕ) → c < M → Is (shrunk M R m A c) → Is (A c)
-  shrunk-takes m A c h p = shrunk-out m A c p c h (reach-self m c)
-
-  pub shrunk-mono : (m : ℕ) (A B : ℕ → Bool) → ((d : ℕ) → d < M → Is (A d) → Is (B d)) → (c : ℕ) → Is (shrunk M R m A c) → Is (shrunk M R m B c)
-  shrunk-mono m A B f c p = shrunk-in m B c (λ d h q. f d h (shrunk-out m A c p d h q))
-
-  pub shrunk-shrunk : (m n : ℕ) (A : ℕ → Bool) (c : ℕ) → shrunk M R m (shrunk M R n A) c ≡ shrunk M R (m + n) A c
-  shrunk-shrunk m n A c =
-      shrunk-grown m (shrunk M R n A) c
-      ∙ ap not (grown-cong m (λ d. not (shrunk M R n A d)) (grown M R n (λ d. not (A d))) (λ d h. ap not (shrunk-grown n A d) ∙ Bool·not-not (grown M R n (λ e. not (A e)) d)) c)
-      ∙ ap not (grown-grown m n (λ d. not (A d)) c)
-      ∙ sym (shrunk-grown (m + n) A c)
 
 -- ---- steps that lead back
 

@@ -5,23 +5,20 @@ use mathlib.Core.Bool.{Bool, true, false, false≢true, and-eq-true-iff}
 use mathlib.Core.Logic.{_↔_}
 use mathlib.Core.Option.{none, some}
 use mathlib.Core.Path.{_≡_, refl, sym, ap, _∙_}
-use native.Mathlib.Nat.{one-mul, mod-eq-of-lt}
 use native.Mathlib.Omega.{arith}
 use lib.Dec.{leb, ltb, eqb}
-use lib.Pow.{pow-lt, pow-mono}
+use lib.Pow.{pow-mono}
 use borrow.Author.Tests.{eqb-true, le-leb, eq-eqb, ne-eqb}
 use Rattle.cell.specs.Cell.{Frame, down, span, Place, number, Occurs, frameOf, placeOf}
 use Rattle.cell.specs.declared.Kind.{Kind}
 use Rattle.cell.specs.declared.Kind.the-variants.{Up, Down}
 use Rattle.cell.specs.declared.Place as declared
+use Rattle.cell.proofs.Laws.{shifted}
 use Rattle.step.specs.Step.{less, inside, steps, step, leads}
 use Rattle.step.specs.Next.{sameKind, same}
 use Rattle.step.proofs.Laws.{code-cases, same-number}
 
--- N as the code shifts it, in w bits
-pub shifted : (w k : ℕ) → k < w → 1 * 2 ^ k % 2 ^ w ≡ 2 ^ k
-shifted w k h = rw one-mul (mod-eq-of-lt (pow-lt h))
-
+-- N as the code shifts it
 pub rows-shifted : (k : ℕ) → k ≤ 14 → 1 * 2 ^ k % 2 ^ 32 ≡ 2 ^ k
 rows-shifted k h = shifted 32 k (omega arith)
 
