@@ -2,10 +2,11 @@
 -- Assumes nothing.
 use Prim.Native.Nat.{ℕ, zero, suc, _+_, _*_, _-_, _/_, _%_, _^_, _≤_, _<_, max}
 use mathlib.Core.Path.{_≡_, refl, sym, ap, subst, _∙_}
-use mathlib.Core.Bool.{Bool, true, false, cond, _&&_, _||_, or-false, or-true}
+use mathlib.Core.Bool.{Bool, true, false, cond, _||_, or-false, or-true}
 use mathlib.Core.List.{List, [], _∷_, _++_}
 use mathlib.Core.Logic.{⊎-elim}
-use native.Mathlib.Nat.{one-mul, lt-of-lt-of-le, eq-or-lt-of-le, le-of-suc-le-suc, div-eq-of-lt, add-mul-div-right, add-mul-mod-self-right, mul-add-mod-self-right, pow-suc, mod-lt, mod-eq-of-lt, div-lt-iff-lt-mul, add-comm, add-zero, add-suc, zero-add}
+use native.Mathlib.Nat.{one-mul, lt-of-lt-of-le, eq-or-lt-of-le, le-of-suc-le-suc, add-comm, add-zero, add-suc, zero-add}
+use native.Mathlib.Nat.{div-eq-of-lt, add-mul-div-right, add-mul-mod-self-right, mul-add-mod-self-right, pow-suc, mod-lt, mod-eq-of-lt, div-lt-iff-lt-mul}
 use native.Mathlib.Numerals.{add-one}
 use native.Mathlib.Omega.{arith}
 use borrow.Author.Count.{below-more}
@@ -13,10 +14,10 @@ use borrow.Author.Tests.{ltb-true, ltb-false, eq-eqb, ne-eqb, eqb-true, eqb-fals
 use lib.Bits.{bitOr, or-step, or-shr, or-lt}
 use lib.Count.{ones, ones-cat}
 use lib.Dec.{eqb, ltb}
-use lib.ListN.{length, getD, set, replicate, length-append, List·getD-eq-default, List·getD-append}
+use lib.ListN.{length, getD, set, length-append, List·getD-eq-default, List·getD-append}
 use lib.Pow.{pow-pos, pow-mono, pow-lt, pow-add, split, high, low}
 use lib.Seq.{ext-getD, getD-at, getD-set-same, getD-set-other, set-out, set-getD}
-use Rattle.bitset.specs.Bits.{bit, marked, bitsOf, bytesOf, size, marking}
+use Rattle.bitset.specs.Bits.{bit, marked, bitsOf, bytesOf, Bytes, size, marking}
 
 -- ---- numbers and their bits
 
@@ -208,10 +209,6 @@ shifted w j h = rw one-mul (mod-eq-of-lt (pow-lt h))
 
 -- ---- bytes and the cells they mark
 
--- every element is below 256 (past the end a list is read as 0)
-abbrev pub Bytes : List ℕ → Type 0
-Bytes s = (i : ℕ) → getD s i 0 < 256
-
 -- cell 8 × i + j is bit j of byte i
 pub marked-at : (s : List ℕ) (i j : ℕ) → j < 8 → marked s (8 * i + j) ≡ bit (getD s i 0) j
 unfolding marked
@@ -256,10 +253,8 @@ bytes-are n s P e f = ext-getD 0 s (bytesOf n P) (e ∙ sym (length-bytesOf n P)
 
 -- bytes are settled by the cells they mark
 pub settled : (n : ℕ) (s : List ℕ) (P : ℕ → Bool) → length s ≡ n → Bytes s → ((c : ℕ) → c < 8 * n → marked s c ≡ P c) → s ≡ bytesOf n P
-settled n s P e b f = bytes-are n s P e (λ i h. bits-settled 8 (getD s i 0) (λ j. P (8 * i + j)) (b i) (λ j l. sym (marked-at s i j l) ∙ f (8 * i + j) (omega arith)))
-
-pub masks-same : (n : ℕ) (s t : List ℕ) → length s ≡ n → length t ≡ n → Bytes s → Bytes t → ((c : ℕ) → c < 8 * n → marked s c ≡ marked t c) → s ≡ t
-masks-same n s t e d b k f = settled n s (marked t) e b f ∙ sym (settled n t (marked t) d k (λ c h. refl))
+settled n s P e b f = bytes-are n s P e (λ i h. bits-settled 8 (getD s i 0) (λ j. P (8 * i + j)) (b i)
+    (λ j l. sym (marked-at s i j l) ∙ f (8 * i + j) (omega arith)))
 
 pub bytesOf-cong : (n : ℕ) (P Q : ℕ → Bool) → ((c : ℕ) → c < 8 * n → P c ≡ Q c) → bytesOf n P ≡ bytesOf n Q
 bytesOf-cong n P Q f = settled n (bytesOf n P) Q (length-bytesOf n P) (bytes-bytesOf n P) (λ c h. marked-bytesOf n P c h ∙ f c h)
@@ -291,21 +286,11 @@ getD-set s i x k h = go (eqb k i) refl
     go false e = getD-set-other s i k x 0 (eqb-false k i e)
 
 -- a loop that writes one element after the other: those up to i are done
-pub fill-more : (f : ℕ → ℕ) (s : List ℕ) (i x : ℕ) → i < length s → ((k : ℕ) → k < i → getD s k 0 ≡ f k) → x ≡ f i → (k : ℕ) → k < i + 1 → getD (set s i x) k 0 ≡ f k
+pub fill-more : (f : ℕ → ℕ) (s : List ℕ) (i x : ℕ) → i < length s →
+    ((k : ℕ) → k < i → getD s k 0 ≡ f k) → x ≡ f i → (k : ℕ) → k < i + 1 → getD (set s i x) k 0 ≡ f k
 fill-more f s i x h g e = below-more (λ (k : ℕ). getD (set s i x) k 0 ≡ f k) i
     (λ k l. getD-set-other s i k x 0 (λ (q : k ≡ i). omega arith) ∙ g k l)
     (getD-set-same s i x 0 h ∙ e)
-
-pub bytes-set : (s : List ℕ) (i x : ℕ) → Bytes s → x < 256 → Bytes (set s i x)
-bytes-set s i x b h k = go (ltb i (length s)) refl
-  where
-    one : (t : Bool) → cond t x (getD s k 0) < 256
-    one true = h
-    one false = b k
-
-    go : (t : Bool) → ltb i (length s) ≡ t → getD (set s i x) k 0 < 256
-    go true e = rw (getD-set s i x k (ltb-true i (length s) e)) (one (eqb k i))
-    go false e = rw (set-out s i x (ltb-false i (length s) e)) (b k)
 
 -- two cells of one byte are the same where their bits are
 cell-bit : (c d : ℕ) → c / 8 ≡ d / 8 → eqb (c % 8) (d % 8) ≡ eqb c d
@@ -315,7 +300,8 @@ cell-bit c d h = go (eqb c d) refl
     go true e = eq-eqb (c % 8) (d % 8) (ap (λ (n : ℕ). n % 8) (eqb-true c d e))
     go false e = ne-eqb (c % 8) (d % 8) (λ (q : c % 8 ≡ d % 8). eqb-false c d e (omega arith))
 
-marked-set : (s : List ℕ) (c d : ℕ) → c < 8 * length s → marked s c ≡ false → marked (set s (c / 8) (getD s (c / 8) 0 + 2 ^ (c % 8))) d ≡ (marked s d || eqb c d)
+marked-set : (s : List ℕ) (c d : ℕ) → c < 8 * length s → marked s c ≡ false →
+    marked (set s (c / 8) (getD s (c / 8) 0 + 2 ^ (c % 8))) d ≡ (marked s d || eqb c d)
 unfolding marked
 marked-set s c d h e = rw (getD-set s (c / 8) (x + 2 ^ (c % 8)) (d / 8) (omega arith)) (go (eqb (d / 8) (c / 8)) refl)
   where
@@ -348,47 +334,6 @@ unfolding size
 size-le zero P = omega arith
 size-le (suc n) P = omega (arith, size-le n P, digit-low (P n))
 
-pub size-mono : (n : ℕ) (P Q : ℕ → Bool) → ((j : ℕ) → j < n → P j ≡ true → Q j ≡ true) → size n P ≤ size n Q
-unfolding size
-size-mono zero P Q f = omega arith
-size-mono (suc n) P Q f = go (P n) (f n (omega arith)) (size-mono n P Q (λ j h. f j (omega arith)))
-  where
-    go : (b : Bool) → (b ≡ true → Q n ≡ true) → size n P ≤ size n Q → size n P + cond b 1 0 ≤ size n Q + cond (Q n) 1 0
-    go true q h = rw (q refl) (omega arith)
-    go false q h = omega arith
-
--- a set that lacks one of another's has fewer
-pub size-less : (n : ℕ) (P Q : ℕ → Bool) (c : ℕ) → c < n → P c ≡ false → Q c ≡ true → ((j : ℕ) → j < n → P j ≡ true → Q j ≡ true) → size n P < size n Q
-unfolding size
-size-less zero P Q c h p q f = absurd (omega arith)
-size-less (suc n) P Q c h p q f = ⊎-elim
-    (λ (e : c ≡ n). last (subst (λ (i : ℕ). P i ≡ false) e p) (subst (λ (i : ℕ). Q i ≡ true) e q))
-    (λ (l : c < n). let less = size-less n P Q c l p q (λ j k. f j (omega arith)) in one (P n) (f n (omega arith)) less)
-    (eq-or-lt-of-le (le-of-suc-le-suc h))
-  where
-    last : P n ≡ false → Q n ≡ true → size n P + digit (P n) < size n Q + digit (Q n)
-    last a b = rw (a, b) (omega (arith, size-mono n P Q (λ j k. f j (omega arith))))
-
-    one : (b : Bool) → (b ≡ true → Q n ≡ true) → size n P < size n Q → size n P + digit b < size n Q + digit (Q n)
-    one true g h = rw (g refl) (omega arith)
-    one false g h = omega arith
-
-pub size-none : (n : ℕ) (P : ℕ → Bool) → ((j : ℕ) → j < n → P j ≡ false) → size n P ≡ 0
-unfolding size
-size-none zero P f = refl
-size-none (suc n) P f = rw (size-none n P (λ j h. f j (omega arith)), f n (omega arith))
-
-pub size-union : (n : ℕ) (P Q : ℕ → Bool) → size n (λ c. P c || Q c) + size n (λ c. P c && Q c) ≡ size n P + size n Q
-unfolding size
-size-union zero P Q = refl
-size-union (suc n) P Q = omega (arith, size-union n P Q, one (P n) (Q n))
-  where
-    one : (p q : Bool) → digit (p || q) + digit (p && q) ≡ digit p + digit q
-    one true true = refl
-    one true false = refl
-    one false true = refl
-    one false false = refl
-
 -- the numbers below n, and the m from n on
 pub size-add : (n m : ℕ) (P : ℕ → Bool) → size (n + m) P ≡ size n P + size m (λ j. P (n + j))
 unfolding size
@@ -414,21 +359,8 @@ ones-size zero x h = let e : x ≡ 0 = omega arith in rw e
 ones-size (suc n) x h =
     let q : x / 2 ^ n < 2 = div-lt-iff-lt-mul (pow-pos n) .1 (omega (arith, pow-suc 2 n)) in
     let r : x % 2 ^ n < 2 ^ n = mod-lt x (pow-pos n) in
-    let low : size n (bit (x % 2 ^ n)) ≡ size n (bit x) = size-cong n (bit (x % 2 ^ n)) (bit x) (λ j l. sym (bit-low n (x / 2 ^ n) (x % 2 ^ n) j l) ∙ ap (λ (y : ℕ). bit y j) (split x n)) in
+    let low : size n (bit (x % 2 ^ n)) ≡ size n (bit x) =
+    size-cong n (bit (x % 2 ^ n)) (bit x) (λ j l. sym (bit-low n (x / 2 ^ n) (x % 2 ^ n) j l) ∙ ap (λ (y : ℕ). bit y j) (split x n)) in
     let top : eqb (x / 2 ^ n) 1 ≡ bit x n = sym (bit-top n (x / 2 ^ n) (x % 2 ^ n) r q) ∙ ap (λ (y : ℕ). bit y n) (split x n) in
     let one : ones (x / 2 ^ n) ≡ digit (bit x n) = digit-ones (x / 2 ^ n) q ∙ is-digit (x / 2 ^ n) q ∙ ap digit top in
     ap ones (sym (split x n)) ∙ ones-cat n (x / 2 ^ n) (x % 2 ^ n) r ∙ rw (one, ones-size n (x % 2 ^ n) r, low) (add-comm (digit (bit x n)) (size n (bit x)))
-
--- ---- no cell marked
-
-zeros : (n i : ℕ) → _≡_ {A = ℕ} (getD (replicate n 0) i 0) 0
-zeros zero i = refl
-zeros (suc n) zero = refl
-zeros (suc n) (suc i) = zeros n i
-
-pub marked-zeros : (n c : ℕ) → marked (replicate n 0) c ≡ false
-unfolding marked
-marked-zeros n c = rw (zeros n (c / 8)) (bit-zero (c % 8))
-
-pub bytes-zeros : (n : ℕ) → Bytes (replicate n 0)
-bytes-zeros n i = rw (zeros n i) (omega arith)

@@ -1,6 +1,6 @@
 -- Sets of cells as bits of bytes (document 01, "Masks"): cell c is bit c mod 8, low bit first, of byte c / 8.
-use Prim.Native.Nat.{ℕ, zero, suc, _+_, _*_, _/_, _%_, _^_}
-use mathlib.Core.Bool.{Bool, true, false, cond}
+use Prim.Native.Nat.{ℕ, zero, suc, _+_, _*_, _/_, _%_, _^_, _<_}
+use mathlib.Core.Bool.{Bool, cond, not}
 use mathlib.Core.List.{List, [], _∷_, _++_}
 use lib.Dec.{eqb}
 use lib.ListN.{getD, set}
@@ -8,6 +8,10 @@ use lib.ListN.{getD, set}
 -- bit j of a byte, low bit first
 unfoldable pub bit : ℕ → ℕ → Bool
 bit x j = eqb (x / 2 ^ j % 2) 1
+
+-- bytes: every element is below 256 (past its end a list is read as 0)
+abbrev pub Bytes : List ℕ → Type 0
+Bytes s = (i : ℕ) → getD s i 0 < 256
 
 -- whether a cell is marked; past the end of the bytes none is
 unfoldable pub marked : List ℕ → ℕ → Bool
@@ -31,3 +35,7 @@ size (suc n) P = size n P + cond (P n) 1 0
 -- the bytes with one cell more marked; past their end they stay
 unfoldable pub marking : List ℕ → ℕ → List ℕ
 marking s c = cond (marked s c) s (set s (c / 8) (getD s (c / 8) 0 + 2 ^ (c % 8)))
+
+-- what is not in a set
+unfoldable pub outside : (ℕ → Bool) → ℕ → Bool
+outside P c = not (P c)

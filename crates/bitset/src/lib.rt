@@ -1,6 +1,7 @@
 // Sets of cells as bits of bytes: document 01, "Masks".
 ghost use mathlib.Core.Path.{_≡_};
-ghost use Rattle.bitset.specs.Bits.{marked, marking};
+ghost use lib.ListN.{length, replicate};
+ghost use Rattle.bitset.specs.Bits.{marked, marking, bytesOf, outside};
 
 // Whether a cell is marked. Past the end of the mask none is.
 pub fn is_marked(mask: &[u8], cell: u32) -> bool
@@ -22,4 +23,26 @@ pub fn mark(mask: &mut [u8], cell: u32)
         return;
     }
     mask[at] = mask[at] | (1 << (cell % 8));
+}
+
+// Unmarks every cell.
+pub fn clear(mask: &mut [u8])
+    ensures { λ _. ⌜ now (mask .exit) ≡ replicate (length (now (mask .entry))) 0 ⌝ }
+{
+    let mut i = 0;
+    while i < mask.len() {
+        mask[i] = 0;
+        i += 1;
+    }
+}
+
+// Marks exactly the cells that were not marked.
+pub fn complement(mask: &mut [u8])
+    ensures { λ _. ⌜ now (mask .exit) ≡ bytesOf (length (now (mask .entry))) (outside (marked (now (mask .entry)))) ⌝ }
+{
+    let mut i = 0;
+    while i < mask.len() {
+        mask[i] = 255 - mask[i];
+        i += 1;
+    }
 }

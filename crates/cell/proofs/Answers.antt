@@ -1,41 +1,46 @@
--- What a caller learns from an answer of `place_of`: by which tests it was accepted, or that its own call is refused by the same number. Assumes nothing.
-use Prim.Native.Nat.{ℕ, _*_, _^_, _≤_}
-use mathlib.Core.Path.{_≡_, refl, subst⁻¹}
-use mathlib.Core.Bool.{Bool, true, false}
-use native.Mathlib.Omega.{arith}
+-- What a caller learns from the answers of `place_of` and `number_of`. Assumes nothing.
+use Prim.Native.Nat.{ℕ, _^_, _≤_, _<_}
+use mathlib.Core.Path.{_≡_, refl, subst}
 use borrow.Author.Tests.{ltb-false, leb-false, le-ltb, lt-leb}
-use lib.Dec.{leb, ltb}
-use Rattle.refusal.specs.Answer.{Answer, given, refused, _when_, unless}
-use Rattle.cell.specs.Cell.{Place, place, span, number, Occurs, placeCall, numberCall, maxLevel}
-use Rattle.cell.proofs.Laws.{place-occurs}
+use mathlib.Core.List.{List, [], _++_}
+use Rattle.refusal.specs.Answer.{Test, given, inOrder}
+use Rattle.refusal.proofs.Answers.{Passed, passed, gives}
+use Rattle.cell.specs.Cell.{Place, place, span, number, Occurs, cells, cellTests, placeCall, numberCall, maxLevel}
+use Rattle.cell.proofs.Laws.{place-occurs, number-below, place-number}
 
--- the level and the number were in range, and the place is the number's
-pub record Accepted (k n : ℕ) (p : Place) : Type 0 where
-  pub level : ltb maxLevel k ≡ false
-  pub cell : leb (8 * 4 ^ k) n ≡ false
-  pub at : p ≡ place k n
+-- cell n of level k has the place p: level and number passed their tests
+pub record Given (k n : ℕ) (p : Place) : Type 0 where
+  pub level : k ≤ maxLevel
+  pub below : n < cells k
+  pub at : place k n ≡ p
+  pub occurs : Occurs k p
 
-pub accepted : (k n : ℕ) (p : Place) → given p ≡ placeCall k n → Accepted k n p
-accepted k n p e = go (ltb maxLevel k) (leb (8 * 4 ^ k) n) refl refl e
-  where
-    go : (b c : Bool) → ltb maxLevel k ≡ b → leb (8 * 4 ^ k) n ≡ c → given p ≡ unless (1 when b) (unless (4 when c) (given (place k n))) → Accepted k n p
-    go true c f g e = absurd (let z : _≡_ {A = ℕ} 0 1 = cc in omega arith)
-    go false true f g e = absurd (let z : _≡_ {A = ℕ} 0 1 = cc in omega arith)
-    go false false f g e = record { level = f; cell = g; at = cc }
+-- both in range, and so its place occurs
+pub in-range : (k n : ℕ) (p : Place) → k ≤ maxLevel → n < cells k → place k n ≡ p → Given k n p
+in-range k n p h l e = record { level = h; below = l; at = e; occurs = subst (Occurs k) e (place-occurs k n l) }
 
--- so the level is within its bound, and the place occurs there
-pub occurs : {k n : ℕ} {p : Place} → Accepted k n p → (k ≤ 14) × Occurs k p
-occurs {k} {n} {p} A = (ltb-false _ _ (A .level), subst⁻¹ (Occurs k) (A .at) (place-occurs k n (leb-false _ _ (A .cell))))
+-- so where a call whose tests begin with those of level and number gives a value; and it passed the others
+pub accepted-with : {A : Type 0} (k n : ℕ) (us : List Test) (a b : A) → given b ≡ inOrder (cellTests k n ++ us) a →
+    Given k n (place k n) × Passed us × (a ≡ b)
+accepted-with k n us a b e =
+    let t = passed (cellTests k n ++ us) a b e in
+    (in-range k n (place k n) (ltb-false maxLevel k (t .0 .0)) (leb-false (cells k) n (t .0 .1 .0)) refl, t .0 .1 .1, t .1)
 
--- a call that tests the level and this cell first is refused by the number that `place_of` gave
-pub refused-too : {A : Type 0} (k n j : ℕ) (rest : Answer A) → refused j ≡ placeCall k n → refused j ≡ unless (1 when ltb maxLevel k) (unless (4 when leb (8 * 4 ^ k) n) rest)
-refused-too {A} k n j rest e = go (ltb maxLevel k) (leb (8 * 4 ^ k) n) e
-  where
-    go : (b c : Bool) → refused j ≡ unless (1 when b) (unless (4 when c) (given (place k n))) → _≡_ {A = Answer A} (refused j) (unless (1 when b) (unless (4 when c) rest))
-    go true c e = cc
-    go false true e = cc
-    go false false e = absurd (let z : _≡_ {A = ℕ} 0 1 = cc in omega arith)
+-- so where a call by level and number gives one
+pub accepted : {A : Type 0} (k n : ℕ) (a b : A) → given b ≡ inOrder (cellTests k n) a → Given k n (place k n) × (a ≡ b)
+accepted k n a b e = let t = accepted-with k n [] a b e in (t .0, t .2)
 
--- the number of a place that occurs is given
-pub number-given : (k : ℕ) (p : Place) → k ≤ 14 → Occurs k p → numberCall k p ≡ given (number k p)
-number-given k p h o = rw (le-ltb maxLevel k h, lt-leb 8 (p .0) (o .0), le-ltb (2 ^ k) (span (p .1)) (o .1))
+-- and where it gives the place
+pub given-place : (k n : ℕ) (p : Place) → given p ≡ placeCall k n → Given k n p
+given-place k n p e = let a = accepted k n (place k n) p e in in-range k n p (a .0 .level) (a .0 .below) (a .1)
+
+-- a call by level and number gives its value where both are in range
+pub accepts : {A : Type 0} (k n : ℕ) (a : A) → k ≤ maxLevel → n < cells k → given a ≡ inOrder (cellTests k n) a
+accepts k n a h l = gives (cellTests k n) a (le-ltb maxLevel k h, (lt-leb (cells k) n l, tt))
+
+-- a place that occurs is that of its number, which is given
+pub given-at : (k : ℕ) (p : Place) → k ≤ maxLevel → Occurs k p → Given k (number k p) p
+given-at k p h o = in-range k (number k p) p h (number-below k p o) (place-number k p o)
+
+pub given-number : (k : ℕ) (p : Place) → k ≤ maxLevel → Occurs k p → numberCall k p ≡ given (number k p)
+given-number k p h o = rw (le-ltb maxLevel k h, lt-leb 8 (p .0) (o .0), le-ltb (2 ^ k) (span (p .1)) (o .1))

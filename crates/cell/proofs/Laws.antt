@@ -1,16 +1,18 @@
 -- The laws of frames, places and numbers, each once over the level k. They are what the crates above cite.
 -- Assumes nothing.
 use Prim.Native.Nat.{ℕ, zero, suc, _+_, _*_, _-_, _/_, _%_, _^_, _≤_, _<_}
-use mathlib.Core.Path.{_≡_, refl, sym, ap, ap₂, subst, _∙_}
+use mathlib.Core.Path.{_≡_, refl, sym, ap₂, subst, _∙_}
 use mathlib.Core.Logic.{_↔_}
-use native.Mathlib.Nat.{one-mul, mod-eq-of-lt, add-mul, mul-assoc, le-div-iff-mul-le, le-pred-of-lt, mul-le-mul-right, pow-suc, pow-zero, one-le-pow, mod-one, div-add-mod', div-lt-iff-lt-mul, div-div-eq-div-mul, mul-left-comm}
+use native.Mathlib.Nat.{one-mul, add-mul, mul-assoc, mul-left-comm, mul-le-mul-right, le-pred-of-lt, pow-suc, pow-zero, one-le-pow}
+use native.Mathlib.Nat.{mod-one, mod-eq-of-lt, div-one, div-add-mod', div-lt-iff-lt-mul, le-div-iff-mul-le, div-div-eq-div-mul}
 use native.Mathlib.Omega.{arith}
 use lib.ListN.{getD}
 use lib.Pow.{pow-lt}
 use lib.Arith.{digits-lt, digits-div, mod-mul}
 use Rattle.cell.specs.declared.Kind.{Kind}
 use Rattle.cell.specs.declared.Kind.the-variants.{Up, Down}
-use Rattle.cell.specs.Cell.{Frame, frameOf, up, down, children, child, frame, span, Place, place, Occurs, origins, parities, origin, digits, number}
+use Rattle.cell.specs.Cell.{Frame, frameOf, up, down, row, col, children, child, frame, span, Place, place, Occurs}
+use Rattle.cell.specs.Cell.{parents, parities, asChild, digits, number, cells}
 
 -- ---- one step of the table
 
@@ -37,26 +39,27 @@ odd-div a = omega arith
 ruleset halves = (even-mod, even-div, odd-mod, odd-div)
 
 -- a child's parent and digit are those it was made of
-pub origin-child : (f : Frame) (d : ℕ) → d < 4 → origin (child f d) ≡ (f, d)
-unfolding child children origin origins parities
-origin-child (up a b) = digit-cases _ (simp halves) (simp halves) (simp halves) (simp halves)
-origin-child (down a b) = digit-cases _ (simp halves) (simp halves) (simp halves) (simp halves)
+pub as-child-child : (f : Frame) (d : ℕ) → d < 4 → asChild (child f d) ≡ (f, d)
+unfolding child children row col asChild parents parities
+as-child-child (up a b) = digit-cases _ (simp halves) (simp halves) (simp halves) (simp halves)
+as-child-child (down a b) = digit-cases _ (simp halves) (simp halves) (simp halves) (simp halves)
 
--- what is known of a frame's parent and digit: the frame is that child, the digit is below 4, and the parent occurs wherever the frame's level has a level above it
-record Back (f : Frame) (o : Frame × ℕ) : Type 0 where
+-- what is known of a frame's parent and digit: the frame is that child, the digit is below 4,
+-- and the parent occurs wherever the frame's level has a level above it
+record ChildKnown (f : Frame) (o : Frame × ℕ) : Type 0 where
   again : child (o .0) (o .1) ≡ f
   small : o .1 < 4
   inside : (M : ℕ) → span f ≤ 2 * M → span (o .0) ≤ M
 
-back : (f : Frame) → Back f (origin f)
-unfolding origin origins parities child children span
-back (up a b) = digit-cases (λ (i : ℕ). parities (up a b) ≡ i → Back (up a b) (getD (origins (up a b)) i (up a b, 0)))
+child-known : (f : Frame) → ChildKnown f (asChild f)
+unfolding row col asChild parents parities child children span
+child-known (up a b) = digit-cases (λ (i : ℕ). parities (up a b) ≡ i → ChildKnown (up a b) (getD (parents (up a b)) i (up a b, 0)))
     (λ e. record { again = ap₂ up (omega arith) (omega arith); small = omega arith; inside = λ M h. omega arith })
     (λ e. record { again = ap₂ up (omega arith) (omega arith); small = omega arith; inside = λ M h. omega arith })
     (λ e. record { again = ap₂ up (omega arith) (omega arith); small = omega arith; inside = λ M h. omega arith })
     (λ e. record { again = ap₂ up (omega arith) (omega arith); small = omega arith; inside = λ M h. omega arith })
     (parities (up a b)) (omega arith) refl
-back (down a b) = digit-cases (λ (i : ℕ). parities (down a b) ≡ i → Back (down a b) (getD (origins (down a b)) i (down a b, 0)))
+child-known (down a b) = digit-cases (λ (i : ℕ). parities (down a b) ≡ i → ChildKnown (down a b) (getD (parents (down a b)) i (down a b, 0)))
     (λ e. record { again = ap₂ down (omega arith) (omega arith); small = omega arith; inside = λ M h. omega arith })
     (λ e. record { again = ap₂ down (omega arith) (omega arith); small = omega arith; inside = λ M h. omega arith })
     (λ e. record { again = ap₂ down (omega arith) (omega arith); small = omega arith; inside = λ M h. omega arith })
@@ -70,6 +73,11 @@ child-span (down a b) M h = digit-cases _ (omega arith) (omega arith) (omega ari
 
 -- ---- all levels
 
+-- level 0 is up(0,0) of each octant
+pub level-0 : (n : ℕ) → place 0 n ≡ (n, up 0 0)
+unfolding place frame
+level-0 n = rw (pow-zero, div-one)
+
 two-pow : (k : ℕ) → 2 ^ suc k ≡ 2 * 2 ^ k
 two-pow k = omega (arith, pow-suc 2 k)
 
@@ -80,13 +88,13 @@ four-pow k = omega (arith, pow-suc 4 k)
 pub frame-span : (k n : ℕ) → span (frame k n) ≤ 2 ^ k
 unfolding frame span
 frame-span zero n = omega (arith, pow-zero 2)
-frame-span (suc k) n = rw (two-pow k) (child-span (frame k (n / 4)) (2 ^ k) (frame-span k (n / 4)) (n % 4) (omega arith))
+frame-span (suc k) n = rw (two-pow k) (child-span _ (2 ^ k) (frame-span k _) _ (omega arith))
 
 -- k digits are a number below 4^k
 pub digits-below : (k : ℕ) (f : Frame) → digits k f < 4 ^ k
 unfolding digits
 digits-below zero f = omega (arith, pow-zero 4)
-digits-below (suc k) f = omega (arith, four-pow k, digits-below k (origin f .0), back f .small)
+digits-below (suc k) f = omega (arith, four-pow k, digits-below k (asChild f .0), child-known f .small)
 
 -- a frame's digits lead to it
 pub frame-digits : (k : ℕ) (f : Frame) → span f ≤ 2 ^ k → frame k (digits k f) ≡ f
@@ -94,12 +102,12 @@ unfolding frame digits span
 frame-digits zero (up a b) h = ap₂ up (omega (arith, pow-zero 2)) (omega (arith, pow-zero 2))
 frame-digits zero (down a b) h = absurd (omega (arith, pow-zero 2))
 frame-digits (suc k) f h =
-    let d = digits k (origin f .0) in
-    let r = origin f .1 in
-    let high : (4 * d + r) / 4 ≡ d = omega (arith, back f .small) in
-    let low : (4 * d + r) % 4 ≡ r = omega (arith, back f .small) in
-    let same : frame k d ≡ origin f .0 = frame-digits k (origin f .0) (back f .inside (2 ^ k) (rw two-pow at h)) in
-    rw (high, low, same) (back f .again)
+    let d = digits k (asChild f .0) in
+    let r = asChild f .1 in
+    let high : (4 * d + r) / 4 ≡ d = omega (arith, child-known f .small) in
+    let low : (4 * d + r) % 4 ≡ r = omega (arith, child-known f .small) in
+    let same : frame k d ≡ asChild f .0 = frame-digits k (asChild f .0) (child-known f .inside (2 ^ k) (rw two-pow at h)) in
+    rw (high, low, same) (child-known f .again)
 
 -- the digits of the frame that a number leads to are the number's k lowest
 pub digits-frame : (k n : ℕ) → digits k (frame k n) ≡ n % 4 ^ k
@@ -107,7 +115,7 @@ unfolding frame digits
 digits-frame zero n = sym (rw pow-zero (mod-one n))
 digits-frame (suc k) n =
     let b : n % 4 < 4 = omega arith in
-    rw (origin-child (frame k (n / 4)) (n % 4) b, digits-frame k (n / 4), pow-suc 4 k)
+    rw (as-child-child (frame k (n / 4)) (n % 4) b, digits-frame k (n / 4), pow-suc 4 k)
     (omega (arith, mod-mul n {m = 4 ^ k} {c = 4} (one-le-pow k 4 (omega arith)) (omega arith)))
 
 -- digits above the k lowest do not matter to the frame
@@ -123,12 +131,12 @@ frame-low (suc k) o d =
 -- ---- places
 
 -- a number of the level has a place that occurs there
-pub place-occurs : (k n : ℕ) → n < 8 * 4 ^ k → Occurs k (place k n)
+pub place-occurs : (k n : ℕ) → n < cells k → Occurs k (place k n)
 unfolding place
 place-occurs k n h = (div-lt-iff-lt-mul (one-le-pow k 4 (omega arith)) .1 h, frame-span k n)
 
 -- a place that occurs has a number of the level
-pub number-below : (k : ℕ) (p : Place) → Occurs k p → number k p < 8 * 4 ^ k
+pub number-below : (k : ℕ) (p : Place) → Occurs k p → number k p < cells k
 unfolding number
 number-below k p h = digits-lt (h .0) (digits-below k (p .1))
 
@@ -146,7 +154,7 @@ unfolding place number
 number-place k n = rw digits-frame (div-add-mod' n (4 ^ k))
 
 -- the places that occur are exactly those of the level's numbers: up with a+b ≤ N−1 and down with a+b ≤ N−2, in octants 0 to 7
-pub occurs-exactly : (k : ℕ) (p : Place) → Occurs k p ↔ ((n : ℕ) × (n < 8 * 4 ^ k) × (place k n ≡ p))
+pub occurs-exactly : (k : ℕ) (p : Place) → Occurs k p ↔ ((n : ℕ) × (n < cells k) × (place k n ≡ p))
 occurs-exactly k p = (
   λ h. (number k p, number-below k p h, place-number k p h),
   λ w. subst (Occurs k) (w .2) (place-occurs k (w .0) (w .1)),
@@ -163,13 +171,12 @@ child-number k c d h =
 
 -- ---- what the code computes by
 
--- a shift by two bits a digit
-pub shift-four : (n k : ℕ) → n / 2 ^ (2 * k) ≡ n / 4 ^ k
-shift-four n k = ap (λ (m : ℕ). n / m) (go k)
-  where
-    go : (j : ℕ) → 2 ^ (2 * j) ≡ 4 ^ j
-    go zero = refl
-    go (suc j) = let e : 2 * suc j ≡ suc (suc (2 * j)) = omega arith in rw e (omega (arith, pow-suc 2 (suc (2 * j)), pow-suc 2 (2 * j), pow-suc 4 j, go j))
+-- a digit is two bits
+pub shift-four : (k : ℕ) → 2 ^ (2 * k) ≡ 4 ^ k
+shift-four zero = refl
+shift-four (suc k) =
+    let e : 2 * suc k ≡ suc (suc (2 * k)) = omega arith in
+    rw e (omega (arith, pow-suc 2 (suc (2 * k)), pow-suc 2 (2 * k), pow-suc 4 k, shift-four k))
 
 -- row and column of a frame are below what it spans
 pub frame-bounds : (t : Kind) (a b M : ℕ) → span (frameOf t a b) ≤ M → (a < M) × (b < M)
@@ -186,27 +193,28 @@ frame-more k j n h =
     rw (e, q)
 
 -- an octant above 7 is a number past the level's
-pub past-level : (k n : ℕ) → 8 ≤ n / 2 ^ (2 * k) → 8 * 4 ^ k ≤ n
+pub past-level : (k n : ℕ) → 8 ≤ n / 2 ^ (2 * k) → cells k ≤ n
 past-level k n h = le-div-iff-mul-le (one-le-pow k 4 (omega arith)) .0 (rw shift-four at h)
 
-pub below-level : (k n : ℕ) → n / 2 ^ (2 * k) < 8 → n < 8 * 4 ^ k
+pub below-level : (k n : ℕ) → n / 2 ^ (2 * k) < 8 → n < cells k
 below-level k n h = div-lt-iff-lt-mul (one-le-pow k 4 (omega arith)) .0 (rw shift-four at h)
 
 -- one digit moved from the frame to the sum
-pub digits-more : (k j : ℕ) (f : Frame) (w s : ℕ) → j < k → digits (k - suc j) (origin f .0) * (4 * w) + (s + origin f .1 * w) ≡ digits (k - j) f * w + s
+pub digits-more : (k j : ℕ) (f : Frame) (w s : ℕ) → j < k →
+    digits (k - suc j) (asChild f .0) * (4 * w) + (s + asChild f .1 * w) ≡ digits (k - j) f * w + s
 unfolding digits
 digits-more k j f w s h =
     let e : k - j ≡ suc (k - suc j) = omega arith in
-    let d = digits (k - suc j) (origin f .0) in
+    let d = digits (k - suc j) (asChild f .0) in
     rw (e, add-mul) (omega (arith, mul-left-comm d 4 w, mul-assoc 4 d w))
 
--- a digit at its weight keeps the sum below the next weight
-pub digit-weight : (f : Frame) (w s : ℕ) → s < w → s + origin f .1 * w < 4 * w
-digit-weight f w s h = omega (arith, mul-le-mul-right w (le-pred-of-lt (back f .small)))
+-- a digit is below 4, and at its weight keeps the sum below the next weight
+pub digit-small : (f : Frame) → asChild f .1 < 4
+digit-small f = child-known f .small
+
+pub digit-weight : (f : Frame) (w s : ℕ) → s < w → s + asChild f .1 * w < 4 * w
+digit-weight f w s h = omega (arith, mul-le-mul-right w (le-pred-of-lt (digit-small f)))
 
 -- N as the code shifts it, in w bits
 pub shifted : (w k : ℕ) → k < w → 1 * 2 ^ k % 2 ^ w ≡ 2 ^ k
 shifted w k h = rw one-mul (mod-eq-of-lt (pow-lt h))
-
-pub shifted-one : (k : ℕ) → k ≤ 14 → 1 * 2 ^ k % 2 ^ 64 ≡ 2 ^ k
-shifted-one k h = shifted 64 k (omega arith)

@@ -1,9 +1,11 @@
 -- Cells and their numbers (document 01, "Cells and their numbers"). At level k, N is 2 ^ k.
 use Prim.Native.Nat.{ℕ, zero, suc, _+_, _*_, _/_, _%_, _^_, _≤_, _<_}
+use mathlib.Core.Bool.{_||_}
 use mathlib.Core.List.{List, [], _∷_}
 use lib.Dec.{leb, ltb}
 use lib.ListN.{getD}
-use Rattle.refusal.specs.Answer.{Answer, given, refused, _when_, inOrder}
+use Rattle.refusal.specs.Answer.{Answer, given, refused, Test, _when_, inOrder}
+use Rattle.refusal.specs.Tests.{badLevel}
 use Rattle.cell.specs.declared.Kind.{Kind}
 use Rattle.cell.specs.declared.Kind.the-variants.{Up, Down}
 use Rattle.cell.specs.declared.Place as declared
@@ -18,6 +20,15 @@ use Rattle.cell.specs.declared.NumberAnswer.the-variants as number-answe
 pub data Frame : Type 0 where
   up : ℕ → ℕ → Frame
   down : ℕ → ℕ → Frame
+
+-- row and column of a frame
+unfoldable pub row : Frame → ℕ
+row (up a b) = a
+row (down a b) = a
+
+unfoldable pub col : Frame → ℕ
+col (up a b) = b
+col (down a b) = b
 
 -- the table of children: 0, 1, 2, 3
 unfoldable pub children : Frame → List Frame
@@ -53,24 +64,25 @@ place k n = (n / 4 ^ k, frame k n)
 abbrev pub Occurs : ℕ → Place → Type 0
 Occurs k p = (p .0 < 8) × (span (p .1) ≤ 2 ^ k)
 
--- the table of children read backwards: a frame's parent, and which child of it the frame is, for the parities (0,0), (0,1), (1,0), (1,1) of row and column
-unfoldable pub origins : Frame → List (Frame × ℕ)
-origins (up a b) =
+-- the table of children read backwards: parent and digit of a frame, for the parities (0,0), (0,1), (1,0), (1,1) of row and column
+unfoldable pub parents : Frame → List (Frame × ℕ)
+parents (up a b) =
     (up (a / 2) (b / 2), 2) ∷ (up (a / 2) (b / 2), 3) ∷ (up (a / 2) (b / 2), 1) ∷ (down (a / 2) (b / 2), 0) ∷ []
-origins (down a b) =
+parents (down a b) =
     (up (a / 2) (b / 2), 0) ∷ (down (a / 2) (b / 2), 1) ∷ (down (a / 2) (b / 2), 2) ∷ (down (a / 2) (b / 2), 3) ∷ []
 
+-- the parities of row and column, as a number below 4
 unfoldable pub parities : Frame → ℕ
-parities (up a b) = 2 * (a % 2) + b % 2
-parities (down a b) = 2 * (a % 2) + b % 2
+parities f = 2 * (row f % 2) + col f % 2
 
-unfoldable pub origin : Frame → Frame × ℕ
-origin f = getD (origins f) (parities f) (f, 0)
+-- a frame as a child: its parent, and which child of it the frame is
+unfoldable pub asChild : Frame → Frame × ℕ
+asChild f = getD (parents f) (parities f) (f, 0)
 
 -- the k digits of a frame of level k, read in base 4
 unfoldable pub digits : ℕ → Frame → ℕ
 digits zero f = 0
-digits (suc k) f = 4 * digits k (origin f .0) + origin f .1
+digits (suc k) f = 4 * digits k (asChild f .0) + asChild f .1
 
 -- the number of a place at level k: octant × 4^k plus the digits
 unfoldable pub number : ℕ → Place → ℕ
@@ -82,13 +94,28 @@ number k p = p .0 * 4 ^ k + digits k (p .1)
 abbrev pub maxLevel : ℕ
 maxLevel = 14
 
+-- how many cells level k has: their numbers are those below
+abbrev pub cells : ℕ → ℕ
+cells k = 8 * 4 ^ k
+
+-- 4: the cell number is not below 8 × 4^k; or no cell of the level has that place
+abbrev pub badCell : ℕ → ℕ → Test
+badCell k n = 4 when leb (cells k) n
+
+abbrev pub badPlace : ℕ → Place → Test
+badPlace k p = 4 when (leb 8 (p .0) || ltb (2 ^ k) (span (p .1)))
+
+-- the tests of a call by level and cell number
+abbrev pub cellTests : ℕ → ℕ → List Test
+cellTests k n = badLevel maxLevel k ∷ badCell k n ∷ []
+
 -- place of a number: refused 1, 4
 abbrev pub placeCall : ℕ → ℕ → Answer Place
-placeCall k n = inOrder (1 when ltb maxLevel k ∷ 4 when leb (8 * 4 ^ k) n ∷ []) (place k n)
+placeCall k n = inOrder (cellTests k n) (place k n)
 
--- number of a place: refused 1; 4 where no cell of the level has that place
+-- number of a place: refused 1, 4
 abbrev pub numberCall : ℕ → Place → Answer ℕ
-numberCall k p = inOrder (1 when ltb maxLevel k ∷ 4 when leb 8 (p .0) ∷ 4 when ltb (2 ^ k) (span (p .1)) ∷ []) (number k p)
+numberCall k p = inOrder (badLevel maxLevel k ∷ badPlace k p ∷ []) (number k p)
 
 -- what the code's values stand for
 abbrev pub frameOf : Kind → ℕ → ℕ → Frame

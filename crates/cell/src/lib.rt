@@ -1,7 +1,8 @@
 // Cells and their numbers: document 01, "Cells and their numbers".
 ghost use mathlib.Core.Path.{_≡_};
-ghost use Prim.Native.Nat.{ℕ, _+_, _*_, _/_, _^_, _<_, _≤_};
-ghost use Rattle.cell.specs.Cell.{Frame, Place, child, origin, digits, place, number, Occurs, span, placeOf, frameOf, saidPlace, saidNumber, placeCall, numberCall};
+ghost use Prim.Native.Nat.{_^_, _<_, _≤_};
+ghost use Rattle.cell.specs.Cell.{Frame, Place, child, asChild, place, number, Occurs, maxLevel, span};
+ghost use Rattle.cell.specs.Cell.{placeOf, saidPlace, saidNumber, placeCall, numberCall};
 
 // A cell's number at its level: octant × 4^level plus the level's digits in base 4, first digit highest.
 pub type CellNumber = u32;
@@ -23,17 +24,19 @@ pub struct Place {
     pub col: u32,
 }
 
+// What is answered for a number: its place, or a refusal.
 pub enum PlaceAnswer {
     At(Place),
     Refused(u8),
 }
 
+// What is answered for a place: its number, or a refusal.
 pub enum NumberAnswer {
     Number(CellNumber),
     Refused(u8),
 }
 
-// The paper's up(row,col) and down(row,col) of an octant.
+// The paper's up(row,col) of an octant.
 fn up(octant: u32, row: u32, col: u32) -> Place
     ensures { λ r. ⌜ placeOf r ≡ (octant, Frame.up row col) ⌝ }
 {
@@ -46,6 +49,7 @@ fn up(octant: u32, row: u32, col: u32) -> Place
     }
 }
 
+// The paper's down(row,col) of an octant.
 fn down(octant: u32, row: u32, col: u32) -> Place
     ensures { λ r. ⌜ placeOf r ≡ (octant, Frame.down row col) ⌝ }
 {
@@ -85,7 +89,7 @@ fn child_of(parent: Place, digit: u32) -> Place
 
 // The place that a cell's digits lead to, from the highest to the lowest.
 fn descend(level: u32, cell: CellNumber) -> Place
-    requires { ⌜ level ≤ 14 ⌝ }
+    requires { ⌜ level ≤ maxLevel ⌝ }
     ensures { λ r. ⌜ placeOf r ≡ place level cell ⌝ }
 {
     let mut place = up(cell >> (2 * level), 0, 0);
@@ -110,12 +114,13 @@ pub fn place_of(level: u32, cell: CellNumber) -> PlaceAnswer
     PlaceAnswer::At(descend(level, cell))
 }
 
-// The parent of a cell, and which child of it the cell is.
-struct Origin(Place, u32);
+// A cell as a child: its parent, and which child of it the cell is.
+struct AsChild(Place, u32);
 
-fn origin_of(place: Place) -> Origin
-    ensures parent { λ r. ⌜ placeOf (r .0) ≡ (place .octant, origin (placeOf place .1) .0) ⌝ }
-    ensures digit { λ r. ⌜ r .1 ≡ origin (placeOf place .1) .1 ⌝ }
+// The parent of a place, and which child of it the place is, by the parities of row and column.
+fn as_child(place: Place) -> AsChild
+    ensures parent { λ r. ⌜ placeOf (r .0) ≡ (place .octant, asChild (placeOf place .1) .0) ⌝ }
+    ensures digit { λ r. ⌜ r .1 ≡ asChild (placeOf place .1) .1 ⌝ }
 {
     let octant = place.octant;
     let kind = place.kind;
@@ -126,23 +131,23 @@ fn origin_of(place: Place) -> Origin
     let lower = down(octant, row, col);
     match kind {
         Kind::Up => match parities {
-            0 => Origin(upper, 2),
-            1 => Origin(upper, 3),
-            2 => Origin(upper, 1),
-            _ => Origin(lower, 0),
+            0 => AsChild(upper, 2),
+            1 => AsChild(upper, 3),
+            2 => AsChild(upper, 1),
+            _ => AsChild(lower, 0),
         },
         Kind::Down => match parities {
-            0 => Origin(upper, 0),
-            1 => Origin(lower, 1),
-            2 => Origin(lower, 2),
-            _ => Origin(lower, 3),
+            0 => AsChild(upper, 0),
+            1 => AsChild(lower, 1),
+            2 => AsChild(lower, 2),
+            _ => AsChild(lower, 3),
         },
     }
 }
 
 // The digits of a place that occurs, the lowest first, with the octant above them.
 fn ascend(level: u32, place: Place) -> CellNumber
-    requires { ⌜ (level ≤ 14) × Occurs level (placeOf place) ⌝ }
+    requires { ⌜ (level ≤ maxLevel) × Occurs level (placeOf place) ⌝ }
     ensures { λ r. ⌜ r ≡ number level (placeOf place) ⌝ }
 {
     let octant = place.octant;
@@ -151,10 +156,11 @@ fn ascend(level: u32, place: Place) -> CellNumber
     let mut weight = 1;
     let mut done = 0;
     while done < level {
-        let o = origin_of(low);
-        digits += o.1 * weight;
+        let child = as_child(low);
+        let digit = child.1;
+        digits += digit * weight;
         weight = 4 * weight;
-        low = o.0;
+        low = child.0;
         done += 1;
     }
     octant * weight + digits

@@ -4,29 +4,22 @@ use mathlib.Core.Path.{_≡_, refl, sym, ap, _∙_}
 use mathlib.Core.Bool.{Bool, true, false, cond, not, _&&_, _||_, and-false}
 use mathlib.Core.List.{List}
 use mathlib.Core.Logic.{⊎-elim}
-use native.Mathlib.Nat.{pow-suc, pow-le-pow-right, eq-or-lt-of-le}
+use native.Mathlib.Nat.{pow-le-pow-right, eq-or-lt-of-le}
 use native.Mathlib.Omega.{arith}
 use borrow.Author.Tests.{eq-eqb, ne-eqb}
 use lib.Bits.{bitOr, or-lt}
 use lib.ListN.{getD}
-use lib.Pow.{pow-add}
+use Rattle.refusal.proofs.Tests.{clash}
 use Rattle.bitset.specs.Bits.{bit, marked, bitsOf}
 use Rattle.bitset.proofs.Laws.{marked-at, bits-settled, bit-or}
-use Rattle.mask.specs.Mask.{yes, lacks, lowest, difference, union}
+use Rattle.mask.specs.Mask.{maxMaskLevel, within, lacks, lowest, difference, union}
 
--- 4^k is a shift by 2 × k
-pub shift-four : (k : ℕ) → 2 ^ (2 * k) ≡ 4 ^ k
-shift-four zero = refl
-shift-four (suc k) =
-    let e : 2 * suc k ≡ 2 * k + 2 = omega arith in
-    rw (e, pow-add 2 (2 * k) 2, shift-four k, pow-suc 4 k)
-
--- a mask has at most 65,536 bytes
-pub mask-small : (k : ℕ) → k ≤ 8 → 4 ^ k ≤ 65536
-mask-small k h = pow-le-pow-right {n = 4} (omega arith) {i = k} {j = 8} h
+-- no mask is longer than those of the highest level
+pub mask-small : (k : ℕ) → k ≤ maxMaskLevel → 4 ^ k ≤ 4 ^ maxMaskLevel
+mask-small k h = pow-le-pow-right {n = 4} (omega arith) {i = k} {j = maxMaskLevel} h
 
 -- the lowest of a set: none below it, and it is in the set unless it is past the end
-pub lowest-none : (P : ℕ → Bool) (j m : ℕ) → ((c : ℕ) → c < m + j → P c ≡ false) → lowest P j m ≡ yes
+pub lowest-none : (P : ℕ → Bool) (j m : ℕ) → ((c : ℕ) → c < m + j → P c ≡ false) → lowest P j m ≡ within
 unfolding lowest
 lowest-none P zero m f = refl
 lowest-none P (suc j) m f = rw (f m (omega arith)) (lowest-none P j (suc m) (λ c h. f c (omega arith)))
@@ -39,10 +32,10 @@ lowest-at P (suc j) m r h l f e = go (P m) refl (lowest-at P j (suc m) r)
     go : (b : Bool) → P m ≡ b → (suc m ≤ r → r < suc m + j → ((c : ℕ) → c < r → P c ≡ false) → P r ≡ true → lowest P j (suc m) ≡ lacks r) → cond b (lacks m) (lowest P j (suc m)) ≡ lacks r
     go true q ih = ⊎-elim
         (λ (d : m ≡ r). ap lacks d)
-        (λ (d : m < r). let z = sym q ∙ f m d in absurd (let z : _≡_ {A = ℕ} 0 1 = cc in omega arith))
+        (λ (d : m < r). clash q (f m d))
         (eq-or-lt-of-le h)
     go false q ih = ⊎-elim
-        (λ (d : m ≡ r). let z : true ≡ false = sym e ∙ ap P (sym d) ∙ q in absurd (let z : _≡_ {A = ℕ} 0 1 = cc in omega arith))
+        (λ (d : m ≡ r). clash e (ap P (sym d) ∙ q))
         (λ (d : m < r). ih d (omega arith) f e)
         (eq-or-lt-of-le h)
 

@@ -1,7 +1,6 @@
 pub mod Laws
-pub mod Spread
-pub mod Bytes
-pub mod Reached
-pub mod Growth
-pub mod Tests
-pub mod Demand3
+pub mod Answers
+pub mod Inclusion
+pub mod Walks
+pub mod Reach
+pub mod Closure

@@ -1,4 +1,3 @@
 pub mod Mask
-pub mod Spread
-pub mod Grow
-pub mod Growings
+pub mod Walk
+pub mod Reach

@@ -1,11 +1,13 @@
--- Masks (document 01, "Masks"): a mask of level k is exactly 4^k bytes. The cells of level k are the numbers below 8 × 4^k.
-use Prim.Native.Nat.{ℕ, zero, suc, _+_, _*_, _^_}
-use mathlib.Core.Bool.{Bool, true, false, _&&_, _||_, not, cond}
+-- Masks (document 01, "Masks"): a mask of level k is exactly 4^k bytes, and the cells of level k are the numbers below 8 × 4^k.
+use Prim.Native.Nat.{ℕ, zero, suc, _^_}
+use mathlib.Core.Bool.{Bool, _&&_, _||_, not, cond}
 use mathlib.Core.List.{List, [], _∷_}
-use lib.Dec.{leb, ltb, eqb}
-use lib.ListN.{length}
-use Rattle.refusal.specs.Answer.{Answer, given, refused, Test, _when_, inOrder, inOrderLent}
+use Rattle.refusal.specs.Answer.{Answer, given, refused, Test, inOrder, lending, done}
+use Rattle.refusal.specs.Tests.{badLevel, badLength}
 use Rattle.bitset.specs.Bits.{marked, bytesOf, size}
+use Rattle.cell.specs.Cell.{cells}
+use Rattle.mask.specs.declared.MaskAnswer.{MaskAnswer}
+use Rattle.mask.specs.declared.MaskAnswer.the-variants as mask-answer
 use Rattle.mask.specs.declared.JoinAnswer.{JoinAnswer}
 use Rattle.mask.specs.declared.JoinAnswer.the-variants as join-answer
 use Rattle.mask.specs.declared.CountAnswer.{CountAnswer}
@@ -17,15 +19,21 @@ use Rattle.mask.specs.declared.WithinAnswer.the-variants as within-answe
 abbrev pub maxMaskLevel : ℕ
 maxMaskLevel = 8
 
-abbrev pub cells : ℕ → ℕ
-cells k = 8 * 4 ^ k
+-- ---- whether a slice is a mask of a level
 
--- 1: the level is above its bound; 5: a slice is not of its exact length
-abbrev pub badLevel : ℕ → Test
-badLevel k = 1 when ltb maxMaskLevel k
+-- the tests of a call by level and mask
+abbrev pub maskTests : ℕ → List ℕ → List Test
+maskTests k a = badLevel maxMaskLevel k ∷ badLength (4 ^ k) a ∷ []
 
-abbrev pub badLength : ℕ → List ℕ → Test
-badLength k s = 5 when not (eqb (length s) (4 ^ k))
+-- refused 1, 5
+abbrev pub maskCall : ℕ → List ℕ → Answer (Unit {0})
+maskCall k a = inOrder (maskTests k a) done
+
+-- ---- the count of marked cells
+
+-- refused 1, 5
+abbrev pub countCall : ℕ → List ℕ → Answer ℕ
+countCall k a = inOrder (badLevel maxMaskLevel k ∷ badLength (4 ^ k) a ∷ []) (size (cells k) (marked a))
 
 -- ---- join: the cells marked in either of two masks
 
@@ -33,25 +41,21 @@ unfoldable pub union : (ℕ → Bool) → (ℕ → Bool) → ℕ → Bool
 union A B c = A c || B c
 
 -- refused 1, 5
+abbrev pub joinTests : ℕ → List ℕ → List ℕ → List ℕ → List Test
+joinTests k a b out = badLevel maxMaskLevel k ∷ badLength (4 ^ k) a ∷ badLength (4 ^ k) b ∷ badLength (4 ^ k) out ∷ []
+
 abbrev pub joinCall : ℕ → List ℕ → List ℕ → List ℕ → Answer (Unit {0}) × List ℕ
-joinCall k a b out =
-    inOrderLent (badLevel k ∷ badLength k a ∷ badLength k b ∷ badLength k out ∷ []) out tt (bytesOf (4 ^ k) (union (marked a) (marked b)))
-
--- ---- the count of marked cells
-
--- refused 1, 5
-abbrev pub countCall : ℕ → List ℕ → Answer ℕ
-countCall k a = inOrder (badLevel k ∷ badLength k a ∷ []) (size (cells k) (marked a))
+joinCall k a b out = lending (inOrder (joinTests k a b out) done) out (bytesOf (4 ^ k) (union (marked a) (marked b)))
 
 -- ---- within: yes, or the lowest cell marked in the first mask and not in the second
 
 pub data Inclusion : Type 0 where
-  yes : Inclusion
+  within : Inclusion
   lacks : ℕ → Inclusion
 
 -- the lowest of j numbers from m on that is in a set
 unfoldable pub lowest : (ℕ → Bool) → ℕ → ℕ → Inclusion
-lowest P zero m = yes
+lowest P zero m = within
 lowest P (suc j) m = cond (P m) (lacks m) (lowest P j (suc m))
 
 unfoldable pub difference : (ℕ → Bool) → (ℕ → Bool) → ℕ → Bool
@@ -59,19 +63,25 @@ difference A B c = A c && not (B c)
 
 -- refused 1, 5
 abbrev pub withinCall : ℕ → List ℕ → List ℕ → Answer Inclusion
-withinCall k a b = inOrder (badLevel k ∷ badLength k a ∷ badLength k b ∷ []) (lowest (difference (marked a) (marked b)) (cells k) 0)
+withinCall k a b =
+    inOrder (badLevel maxMaskLevel k ∷ badLength (4 ^ k) a ∷ badLength (4 ^ k) b ∷ [])
+    (lowest (difference (marked a) (marked b)) (cells k) 0)
 
 -- ---- what the code's answers say
 
-abbrev pub saidJoin : JoinAnswer → Answer (Unit {0})
-saidJoin join-answer.Joined = given tt
-saidJoin (join-answer.Refused n) = refused n
+abbrev pub saidMask : MaskAnswer → Answer (Unit {0})
+saidMask mask-answer.Fits = given done
+saidMask (mask-answer.Refused n) = refused n
 
 abbrev pub saidCount : CountAnswer → Answer ℕ
 saidCount (count-answer.Count n) = given n
 saidCount (count-answer.Refused n) = refused n
 
+abbrev pub saidJoin : JoinAnswer → Answer (Unit {0})
+saidJoin join-answer.Joined = given done
+saidJoin (join-answer.Refused n) = refused n
+
 abbrev pub saidWithin : WithinAnswer → Answer Inclusion
-saidWithin within-answer.Within = given yes
+saidWithin within-answer.Within = given within
 saidWithin (within-answer.Lacks c) = given (lacks c)
 saidWithin (within-answer.Refused n) = refused n

@@ -4,28 +4,26 @@ ghost use mathlib.Core.Bool.{true, false};
 ghost use mathlib.Core.List.{List};
 ghost use Prim.Native.Nat.{ℕ, _*_, _^_, _≤_, _<_};
 ghost use lib.ListN.{length};
-ghost use Rattle.refusal.specs.Answer.{Answer};
+ghost use Rattle.refusal.specs.Answer.{done, inOrder};
 ghost use Rattle.bitset.specs.Bits.{marked, bytesOf, size};
-ghost use Rattle.mask.specs.Mask.{union, difference, joinCall, countCall, withinCall, saidJoin, saidCount, saidWithin};
-
-mod rings;
-
-pub use rings::GrowAnswer;
-pub use rings::grow;
-pub use rings::shrink;
-
-pub type CellNumber = u32;
+ghost use Rattle.mask.specs.Mask.{maxMaskLevel, union, difference, maskCall, joinCall, countCall, withinCall, joinTests, saidMask, saidJoin, saidCount, saidWithin};
+use cell::CellNumber;
 
 // The highest level of masks and charts.
 pub const MAX_MASK_LEVEL: u32 = 8;
 
-pub enum JoinAnswer {
-    Joined,
+pub enum MaskAnswer {
+    Fits,
     Refused(u8),
 }
 
 pub enum CountAnswer {
     Count(u32),
+    Refused(u8),
+}
+
+pub enum JoinAnswer {
+    Joined,
     Refused(u8),
 }
 
@@ -35,17 +33,22 @@ pub enum WithinAnswer {
     Refused(u8),
 }
 
-// The bytes of a mask of a level.
-fn mask_bytes(level: u32) -> usize
-    requires { ⌜ level ≤ 8 ⌝ }
-    ensures { λ r. ⌜ r ≡ 4 ^ level ⌝ }
+// Whether a slice is a mask of a level: the tests that every call on masks begins with.
+pub fn is_mask(level: u32, mask: &[u8]) -> MaskAnswer
+    ensures { λ r. ⌜ saidMask r ≡ maskCall level (now (mask .entry)) ⌝ }
 {
-    1 << (2 * level)
+    if MAX_MASK_LEVEL < level {
+        return MaskAnswer::Refused(refusal::LEVEL);
+    }
+    if mask.len() != 1 << (2 * level) {
+        return MaskAnswer::Refused(refusal::LENGTH);
+    }
+    MaskAnswer::Fits
 }
 
 // The ones of each byte summed.
 fn sum_ones(mask: &[u8]) -> u32
-    requires { ⌜ length (now mask) ≤ 65536 ⌝ }
+    requires { ⌜ length (now mask) ≤ 4 ^ maxMaskLevel ⌝ }
     ensures { λ r. ⌜ r ≡ size (8 * length (now (mask .entry))) (marked (now (mask .entry))) ⌝ }
 {
     let mut sum = 0;
@@ -61,19 +64,16 @@ fn sum_ones(mask: &[u8]) -> u32
 pub fn count(level: u32, mask: &[u8]) -> CountAnswer
     ensures { λ r. ⌜ saidCount r ≡ countCall level (now (mask .entry)) ⌝ }
 {
-    if MAX_MASK_LEVEL < level {
-        return CountAnswer::Refused(refusal::LEVEL);
+    match is_mask(level, mask) {
+        MaskAnswer::Refused(n) => CountAnswer::Refused(n),
+        MaskAnswer::Fits => CountAnswer::Count(sum_ones(mask)),
     }
-    if mask.len() != mask_bytes(level) {
-        return CountAnswer::Refused(refusal::LENGTH);
-    }
-    CountAnswer::Count(sum_ones(mask))
 }
 
 // The lowest cell that is marked in the first mask and not in the second, or the number past the last cell where there is none.
 // Document 01 asks for a byte scan with a bit scan inside, left by a label at the first cell that lacks.
 fn first_lacking(a: &[u8], b: &[u8]) -> CellNumber
-    requires { ⌜ (length (now a) ≤ 65536) × (length (now b) ≡ length (now a)) ⌝ }
+    requires { ⌜ (length (now a) ≤ 4 ^ maxMaskLevel) × (length (now b) ≡ length (now a)) ⌝ }
     ensures none_below { λ r. ⌜ ((c : ℕ) → c < r → difference (marked (now (a .entry))) (marked (now (b .entry))) c ≡ false) ⌝ }
     ensures there { λ r. ⌜ (r < 8 * length (now (a .entry)) → difference (marked (now (a .entry))) (marked (now (b .entry))) r ≡ true) ⌝ }
 {
@@ -97,21 +97,37 @@ fn first_lacking(a: &[u8], b: &[u8]) -> CellNumber
 pub fn within(level: u32, a: &[u8], b: &[u8]) -> WithinAnswer
     ensures { λ r. ⌜ saidWithin r ≡ withinCall level (now (a .entry)) (now (b .entry)) ⌝ }
 {
-    if MAX_MASK_LEVEL < level {
-        return WithinAnswer::Refused(refusal::LEVEL);
+    match is_mask(level, a) {
+        MaskAnswer::Refused(n) => WithinAnswer::Refused(n),
+        MaskAnswer::Fits => {
+            if a.len() != b.len() {
+                return WithinAnswer::Refused(refusal::LENGTH);
+            }
+            let cell = first_lacking(a, b);
+            if (cell as usize) < 8 * a.len() {
+                WithinAnswer::Lacks(cell)
+            } else {
+                WithinAnswer::Within
+            }
+        }
     }
-    let bytes = mask_bytes(level);
-    if a.len() != bytes {
-        return WithinAnswer::Refused(refusal::LENGTH);
-    }
-    if b.len() != bytes {
-        return WithinAnswer::Refused(refusal::LENGTH);
-    }
-    let cell = first_lacking(a, b);
-    if (cell as usize) < 8 * bytes {
-        WithinAnswer::Lacks(cell)
-    } else {
-        WithinAnswer::Within
+}
+
+// The tests of join.
+fn join_tests(level: u32, a: &[u8], b: &[u8], out: &[u8]) -> JoinAnswer
+    ensures { λ r. ⌜ saidJoin r ≡ inOrder (joinTests level (now (a .entry)) (now (b .entry)) (now (out .entry))) done ⌝ }
+{
+    match is_mask(level, a) {
+        MaskAnswer::Refused(n) => JoinAnswer::Refused(n),
+        MaskAnswer::Fits => {
+            if b.len() != a.len() {
+                return JoinAnswer::Refused(refusal::LENGTH);
+            }
+            if out.len() != a.len() {
+                return JoinAnswer::Refused(refusal::LENGTH);
+            }
+            JoinAnswer::Joined
+        }
     }
 }
 
@@ -129,21 +145,13 @@ fn join_bytes(a: &[u8], b: &[u8], out: &mut [u8])
 
 // Marks in a third mask exactly the cells that either of two masks marks.
 pub fn join(level: u32, a: &[u8], b: &[u8], out: &mut [u8]) -> JoinAnswer
-    ensures { λ r. ⌜ _≡_ {A = Answer (Unit {0}) × List ℕ} (saidJoin r, now (out .exit)) (joinCall level (now (a .entry)) (now (b .entry)) (now (out .entry))) ⌝ }
+    ensures { λ r. ⌜ (saidJoin r, now (out .exit)) ≡ joinCall level (now (a .entry)) (now (b .entry)) (now (out .entry)) ⌝ }
 {
-    if MAX_MASK_LEVEL < level {
-        return JoinAnswer::Refused(refusal::LEVEL);
+    match join_tests(level, a, b, out) {
+        JoinAnswer::Refused(n) => JoinAnswer::Refused(n),
+        JoinAnswer::Joined => {
+            join_bytes(a, b, out);
+            JoinAnswer::Joined
+        }
     }
-    let size = mask_bytes(level);
-    if a.len() != size {
-        return JoinAnswer::Refused(refusal::LENGTH);
-    }
-    if b.len() != size {
-        return JoinAnswer::Refused(refusal::LENGTH);
-    }
-    if out.len() != size {
-        return JoinAnswer::Refused(refusal::LENGTH);
-    }
-    join_bytes(a, b, out);
-    JoinAnswer::Joined
 }

@@ -3,21 +3,24 @@
 use Prim.Native.Nat.{ℕ, zero, suc, _+_, _*_, _-_, _/_, _%_, _^_, _≤_, _<_}
 use mathlib.Core.Path.{_≡_, refl, sym, ap, ap₂, _∙_}
 use mathlib.Core.Bool.{Bool, true, false, cond}
-use native.Mathlib.Nat.{div-add-mod', mod-mod, mul-add-div-right, mul-add-mod-self-right, mul-le-mul, mul-div-mul-right, mod-eq-of-lt, mod-lt, mul-lt-mul-of-pos-left, mul-lt-mul-of-pos-right, lt-of-mul-lt-mul-right, mul-assoc, mul-le-mul-left, div-lt-iff-lt-mul, le-div-iff-mul-le, mul-div-le, lt-mul-div-succ, pow-suc}
+use native.Mathlib.Nat.{div-add-mod', mod-mod, mul-add-div-right, mul-add-mod-self-right, mul-div-mul-right, mod-eq-of-lt, mod-lt, div-lt-iff-lt-mul}
+use native.Mathlib.Nat.{mul-le-mul, mul-le-mul-left, mul-lt-mul-of-pos-left, mul-lt-mul-of-pos-right, lt-of-mul-lt-mul-right, mul-assoc}
+use native.Mathlib.Nat.{le-div-iff-mul-le, mul-div-le, lt-mul-div-succ, pow-suc}
 use native.Mathlib.Omega.{arith}
-use mathlib.Core.List.{List, [], _∷_}
-use lib.Dec.{leb, ltb, eqb}
+use lib.Dec.{ltb, eqb}
 use lib.ListN.{getD}
 use lib.Arith.{digits-div, digits-mod, lt-of-le-ne}
-use lib.Pow.{pow-pos, pow-mono}
+use lib.Pow.{pow-pos}
 use lib.Signed.{ltZ}
 use lib.IntN.{ℤ, pos, negsuc, natAbs, negℤ, _+ℤ_, subℕ}
 use borrow.Author.Tests.{lt-ltb, le-ltb, lt-leb, ne-eqb, leb-false, ltb-true, ltb-false, eqb-true, eqb-false}
-use Rattle.cell.proofs.Laws.{digit-cases, place-occurs, number-place, origin-child}
-use Rattle.refusal.specs.Answer.{Answer, Test, given, refused, _when_, inOrder}
-use Rattle.cell.specs.Cell.{Frame, up, down, Place, Occurs, span, child, children, number, digits, place, maxLevel, numberCall, placeCall}
-use Rattle.position.specs.Parts.{latitudeOf, pOf, mOf}
-use Rattle.position.specs.Position.{q, latitudeOut, longitudeOut, beginning, fromWest, quarter, offset, octant, T, R, Holds, holder, frameAt, placeAt, centreP, centreM, centre, centreCall, cellCall}
+use Rattle.refusal.proofs.Tests.{clash}
+use Rattle.cell.specs.Cell.{Frame, up, down, row, col, Place, Occurs, span, child, children, number, digits}
+use Rattle.cell.proofs.Laws.{digit-cases, as-child-child}
+use Rattle.position.specs.Position.{q, latitudeOut, longitudeOut, beginnings, beginning, fromWest, northOctant, offset, octant}
+use Rattle.position.specs.Position.{scaledT, scaledR, Holds, holder, frameAt, placeAt, Nested}
+use Rattle.position.specs.Position.{thirds, centreP, centreM, latitudeOf, centre}
+use Rattle.position.specs.inside.Parts.{pOf, mOf}
 
 -- ---- longitudes
 
@@ -27,10 +30,10 @@ unfolding fromWest
 from-west (pos n) h = (refl, omega (arith, leb-false (2 * q) n h))
 from-west (negsuc n) h = let b = leb-false (2 * q) n h in rw (le-ltb (2 * q) (suc n) (omega arith)) (refl, omega arith)
 
--- the quarter and the offset of a longitude in range
-pub quarter-below : (x : ℤ) → quarter x < 4
-unfolding quarter
-quarter-below x = omega arith
+-- the northern octant of a longitude is below 4, and its offset below a quarter of a turn
+pub north-octant-below : (x : ℤ) → northOctant x < 4
+unfolding northOctant
+north-octant-below x = omega arith
 
 pub offset-below : (x : ℤ) → offset x < q
 unfolding offset
@@ -45,29 +48,35 @@ record East (i m : ℕ) (x : ℤ) : Type 0 where
 west-sum : (w m : ℕ) → m < w → negsuc (w - 1) +ℤ pos m ≡ negsuc (w - suc m)
 west-sum w m h = let e : suc (w - 1) ≡ w = omega arith in rw (e, lt-ltb m w h)
 
-east-of : (m : ℕ) → m < q → (i : ℕ) → i < 4 → East i m (getD (pos 0 ∷ pos q ∷ negℤ (pos (2 * q)) ∷ negℤ (pos q) ∷ []) i (pos 0) +ℤ pos m)
+east-of : (m : ℕ) → m < q → (i : ℕ) → i < 4 → East i m (getD beginnings i (pos 0) +ℤ pos m)
 unfolding fromWest
 east-of m h = digit-cases _
     (record { inside = lt-leb (2 * q) (0 + m) (omega arith); west = omega arith })
     (record { inside = lt-leb (2 * q) (q + m) (omega arith); west = omega arith })
-    (rw (west-sum (2 * q) m (omega arith)) (record { inside = lt-leb (2 * q) (2 * q - suc m) (omega arith); west = rw (le-ltb (2 * q) (suc (2 * q - suc m)) (omega arith)) (omega arith) }))
-    (rw (west-sum q m h) (record { inside = lt-leb (2 * q) (q - suc m) (omega arith); west = rw (le-ltb (2 * q) (suc (q - suc m)) (omega arith)) (omega arith) }))
+    (rw (west-sum (2 * q) m (omega arith)) (record {
+      inside = lt-leb (2 * q) (2 * q - suc m) (omega arith);
+      west = rw (le-ltb (2 * q) (suc (2 * q - suc m)) (omega arith)) (omega arith);
+    }))
+    (rw (west-sum q m h) (record {
+      inside = lt-leb (2 * q) (q - suc m) (omega arith);
+      west = rw (le-ltb (2 * q) (suc (q - suc m)) (omega arith)) (omega arith);
+    }))
 
 -- the longitude at an offset from an octant's beginning is in range, in that octant, at that offset
 pub beginning-inside : (o m : ℕ) → m < q → longitudeOut (beginning o +ℤ pos m) ≡ false
 unfolding beginning
 beginning-inside o m h = east-of m h (o % 4) (omega arith) .inside
 
-pub beginning-quarter : (o m : ℕ) → m < q → quarter (beginning o +ℤ pos m) ≡ o % 4
-unfolding beginning quarter
-beginning-quarter o m h = rw (east-of m h (o % 4) (omega arith) .west) (omega arith)
+pub beginning-octant : (o m : ℕ) → m < q → northOctant (beginning o +ℤ pos m) ≡ o % 4
+unfolding beginning northOctant
+beginning-octant o m h = rw (east-of m h (o % 4) (omega arith) .west) (omega arith)
 
 pub beginning-offset : (o m : ℕ) → m < q → offset (beginning o +ℤ pos m) ≡ m
 unfolding beginning offset
 beginning-offset o m h = rw (east-of m h (o % 4) (omega arith) .west) (omega arith)
 
 -- a longitude in range is its octant's beginning and its offset
-counted : (w : ℕ) (i : ℕ) → i < 4 → w / q ≡ i → getD (pos 0 ∷ pos q ∷ negℤ (pos (2 * q)) ∷ negℤ (pos q) ∷ []) ((i + 2) % 4) (pos 0) +ℤ pos (w % q) ≡ subℕ w (2 * q)
+counted : (w : ℕ) (i : ℕ) → i < 4 → w / q ≡ i → getD beginnings ((i + 2) % 4) (pos 0) +ℤ pos (w % q) ≡ subℕ w (2 * q)
 counted w = digit-cases _
     (λ e. rw (west-sum (2 * q) (w % q) (omega arith), lt-ltb w (2 * q) (omega arith)) (ap negsuc (omega arith)))
     (λ e. rw (west-sum q (w % q) (omega arith), lt-ltb w (2 * q) (omega arith)) (ap negsuc (omega arith)))
@@ -81,37 +90,37 @@ uncounted (negsuc n) h =
     let b = leb-false (2 * q) n h in
     rw (le-ltb (2 * q) (suc n) (omega arith), lt-ltb (2 * q - suc n) (2 * q) (omega arith)) (ap negsuc (omega arith))
 
-pub beginning-of-quarter : (x : ℤ) → longitudeOut x ≡ false → beginning (quarter x) +ℤ pos (offset x) ≡ x
-unfolding beginning quarter offset
-beginning-of-quarter x h =
+pub beginning-and-offset : (x : ℤ) → longitudeOut x ≡ false → beginning (northOctant x) +ℤ pos (offset x) ≡ x
+unfolding beginning northOctant offset
+beginning-and-offset x h =
     let w = fromWest x in
     rw (mod-mod (w / q + 2) 4) (counted w (w / q) (omega (arith, from-west x h .1)) refl ∙ uncounted x h)
 
 -- a negative latitude adds 4
-pub octant-south : (y x : ℤ) → ltZ y (pos 0) ≡ true → octant y x ≡ quarter x + 4
+pub octant-south : (y x : ℤ) → ltZ y (pos 0) ≡ true → octant y x ≡ northOctant x + 4
 unfolding octant
 octant-south (pos n) x h = absurd (omega (arith, ltb-true n 0 h))
 octant-south (negsuc n) x h = refl
 
-pub octant-north : (y x : ℤ) → ltZ y (pos 0) ≡ false → octant y x ≡ quarter x
+pub octant-north : (y x : ℤ) → ltZ y (pos 0) ≡ false → octant y x ≡ northOctant x
 unfolding octant
 octant-north (pos n) x h = refl
-octant-north (negsuc n) x h = cc
+octant-north (negsuc n) x h = clash refl h
 
 octant-below : (y x : ℤ) → octant y x < 8
 unfolding octant
-octant-below (pos n) x = omega (arith, quarter-below x)
-octant-below (negsuc n) x = omega (arith, quarter-below x)
+octant-below (pos n) x = omega (arith, north-octant-below x)
+octant-below (negsuc n) x = omega (arith, north-octant-below x)
 
 -- ---- which frame holds a point (T, R) of units 1/Q
 
 -- what a frame holds, and the frame of the whole parts and what is left over: `Holds` and `holder` are these at Q = q²
-abbrev Within : ℕ → ℕ → ℕ → Frame → Type 0
-Within Q t r (up a b) = (a * Q ≤ t) × (b * Q ≤ r) × (t + r < (a + b + 1) * Q)
-Within Q t r (down a b) = (t < (a + 1) * Q) × (r < (b + 1) * Q) × ((a + b + 1) * Q ≤ t + r)
+abbrev HoldsAt : ℕ → ℕ → ℕ → Frame → Type 0
+HoldsAt Q t r (up a b) = (a * Q ≤ t) × (b * Q ≤ r) × (t + r < (a + b + 1) * Q)
+HoldsAt Q t r (down a b) = (t < (a + 1) * Q) × (r < (b + 1) * Q) × ((a + b + 1) * Q ≤ t + r)
 
-abbrev holding : ℕ → ℕ → ℕ → Frame
-holding Q t r = cond (ltb (t % Q + r % Q) Q) (up (t / Q) (r / Q)) (down (t / Q) (r / Q))
+abbrev holderAt : ℕ → ℕ → ℕ → Frame
+holderAt Q t r = cond (ltb (t % Q + r % Q) Q) (up (t / Q) (r / Q)) (down (t / Q) (r / Q))
 
 -- a point in the frame's row and column is told from its whole parts
 whole-part : (Q t a : ℕ) → a * Q ≤ t → t < (a + 1) * Q → (t / Q ≡ a) × (t % Q ≡ t - a * Q)
@@ -121,42 +130,42 @@ whole-part Q t a l h =
     (ap (λ (x : ℕ). x / Q) e ∙ digits-div a b, ap (λ (x : ℕ). x % Q) e ∙ digits-mod a b)
 
 -- no other frame holds it
-within-unique : (Q t r : ℕ) (f : Frame) → Within Q t r f → f ≡ holding Q t r
-within-unique Q t r (up a b) h =
+point-unique : (Q t r : ℕ) (f : Frame) → HoldsAt Q t r f → f ≡ holderAt Q t r
+point-unique Q t r (up a b) h =
     let T = whole-part Q t a (h .0) (omega arith) in
     let R = whole-part Q r b (h .1) (omega arith) in
     rw (T .0, T .1, R .0, R .1, lt-ltb (t - a * Q + (r - b * Q)) Q (omega arith))
-within-unique Q t r (down a b) h =
+point-unique Q t r (down a b) h =
     let T = whole-part Q t a (omega arith) (h .0) in
     let R = whole-part Q r b (omega arith) (h .1) in
     rw (T .0, T .1, R .0, R .1, le-ltb (t - a * Q + (r - b * Q)) Q (omega arith))
 
 -- and that frame holds it
-within-frame : (Q t r : ℕ) → 0 < Q → Within Q t r (holding Q t r)
-within-frame Q t r h = by-rest (ltb (t % Q + r % Q) Q) refl
+point-held : (Q t r : ℕ) → 0 < Q → HoldsAt Q t r (holderAt Q t r)
+point-held Q t r h = by-rest (ltb (t % Q + r % Q) Q) refl
   where
     parts : (t / Q * Q + t % Q ≡ t) × (r / Q * Q + r % Q ≡ r) × (t % Q < Q) × (r % Q < Q)
     parts = (div-add-mod' t Q, div-add-mod' r Q, mod-lt t h, mod-lt r h)
 
-    by-rest : (b : Bool) → ltb (t % Q + r % Q) Q ≡ b → Within Q t r (cond b (up (t / Q) (r / Q)) (down (t / Q) (r / Q)))
+    by-rest : (b : Bool) → ltb (t % Q + r % Q) Q ≡ b → HoldsAt Q t r (cond b (up (t / Q) (r / Q)) (down (t / Q) (r / Q)))
     by-rest true e = omega (arith, parts, ltb-true (t % Q + r % Q) Q e)
     by-rest false e = omega (arith, parts, ltb-false (t % Q + r % Q) Q e)
 
 -- ---- the cell answered holds the position, and no other frame does
 
-within-holds : (k p m : ℕ) (f : Frame) → Within (q * q) (T k p) (R k p m) f → Holds k p m f
+held-holds : (k p m : ℕ) (f : Frame) → HoldsAt (q * q) (scaledT k p) (scaledR k p m) f → Holds k p m f
 unfolding Holds
-within-holds k p m (up a b) h = h
-within-holds k p m (down a b) h = h
+held-holds k p m (up a b) h = omega arith
+held-holds k p m (down a b) h = omega arith
 
 pub holder-holds : (k p m : ℕ) → Holds k p m (holder k p m)
 unfolding holder
-holder-holds k p m = within-holds k p m (holder k p m) (within-frame (q * q) (T k p) (R k p m) (omega arith))
+holder-holds k p m = held-holds k p m (holder k p m) (point-held (q * q) (scaledT k p) (scaledR k p m) (omega arith))
 
 holds-holder : (k p m : ℕ) (f : Frame) → Holds k p m f → f ≡ holder k p m
 unfolding Holds holder
-holds-holder k p m (up a b) h = within-unique (q * q) (T k p) (R k p m) (up a b) h
-holds-holder k p m (down a b) h = within-unique (q * q) (T k p) (R k p m) (down a b) h
+holds-holder k p m (up a b) h = point-unique (q * q) (scaledT k p) (scaledR k p m) (up a b) h
+holds-holder k p m (down a b) h = point-unique (q * q) (scaledT k p) (scaledR k p m) (down a b) h
 
 pub holds-unique : (k p m : ℕ) (f g : Frame) → Holds k p m f → Holds k p m g → f ≡ g
 holds-unique k p m f g h i = holds-holder k p m f h ∙ sym (holds-holder k p m g i)
@@ -177,24 +186,24 @@ frame-pole k m = refl
 sum-below : (n p m d : ℕ) → 0 < n → 0 < d → m < p + d → n * p * (p + d) + n * m * d < n * ((p + d) * (p + d))
 sum-below n p m d hn hd hm = omega (arith, mul-lt-mul-of-pos-left (mul-lt-mul-of-pos-right hm hd) hn)
 
-within-span : (Q n t r : ℕ) (f : Frame) → Within Q t r f → t + r < n * Q → span f ≤ n
+held-span : (Q n t r : ℕ) (f : Frame) → HoldsAt Q t r f → t + r < n * Q → span f ≤ n
 unfolding span
-within-span Q n t r (up a b) h l = let s : a + b < n = lt-of-mul-lt-mul-right Q (omega arith) in omega arith
-within-span Q n t r (down a b) h l = let s : a + b + 1 < n = lt-of-mul-lt-mul-right Q (omega arith) in omega arith
+held-span Q n t r (up a b) h l = let s : a + b < n = lt-of-mul-lt-mul-right Q (omega arith) in omega arith
+held-span Q n t r (down a b) h l = let s : a + b + 1 < n = lt-of-mul-lt-mul-right Q (omega arith) in omega arith
 
 holder-span : (k p m : ℕ) → p < q → m < q → span (holder k p m) ≤ 2 ^ k
-unfolding holder T R
+unfolding holder scaledT scaledR
 holder-span k p m h i =
     let e : p + (q - p) ≡ q = omega arith in
     let b = rw e at (sum-below (2 ^ k) p m (q - p) (pow-pos k) (omega arith) (omega arith)) in
-    within-span (q * q) (2 ^ k) (T k p) (R k p m) (holder k p m) (within-frame (q * q) (T k p) (R k p m) (omega arith)) b
+    held-span (q * q) (2 ^ k) (scaledT k p) (scaledR k p m) (holder k p m) (point-held (q * q) (scaledT k p) (scaledR k p m) (omega arith)) b
 
 pole-span : (k : ℕ) → span (up (2 ^ k - 1) 0) ≤ 2 ^ k
 unfolding span
 pole-span k = omega (arith, pow-pos k)
 
-pub frame-span : (k p m : ℕ) → p ≤ q → m < q → span (frameAt k p m) ≤ 2 ^ k
-frame-span k p m h i = at-pole (eqb p q) refl
+pub frame-at-span : (k p m : ℕ) → p ≤ q → m < q → span (frameAt k p m) ≤ 2 ^ k
+frame-at-span k p m h i = at-pole (eqb p q) refl
   where
     at-pole : (b : Bool) → eqb p q ≡ b → span (frameAt k p m) ≤ 2 ^ k
     at-pole true e = rw (eqb-true p q e, frame-pole k m) (pole-span k)
@@ -203,35 +212,7 @@ frame-span k p m h i = at-pole (eqb p q) refl
 -- the place of a position in range occurs at its level
 pub place-at-occurs : (k : ℕ) (y x : ℤ) → latitudeOut y ≡ false → Occurs k (placeAt k y x)
 unfolding placeAt
-place-at-occurs k y x h = (octant-below y x, frame-span k (natAbs y) (offset x) (ltb-false q (natAbs y) h) (offset-below x))
-
--- a place that occurs has its number at a level that is not refused
-pub number-given : (k : ℕ) (c : Place) → k ≤ maxLevel → Occurs k c → numberCall k c ≡ given (number k c)
-number-given k c h o = simp (le-ltb maxLevel k h, lt-leb 8 (c .0) (o .0), le-ltb (2 ^ k) (span (c .1)) (o .1))
-
--- ---- answers
-
--- a call that only computes on from another's value is refused where that one is
-abbrev pub onward : {A B : Type 0} → (A → B) → Answer A → Answer B
-onward f (given a) = given (f a)
-onward f (refused n) = refused n
-
-in-order-onward : {A B : Type 0} (f : A → B) (ts : List Test) (a : A) → inOrder ts (f a) ≡ onward f (inOrder ts a)
-in-order-onward f [] a = refl
-in-order-onward f ((n when true) ∷ ts) a = refl
-in-order-onward f ((n when false) ∷ ts) a = in-order-onward f ts a
-
-pub centre-onward : (k n : ℕ) → centreCall k n ≡ onward (centre k) (placeCall k n)
-centre-onward k n = in-order-onward (centre k) (1 when ltb maxLevel k ∷ 4 when leb (8 * 4 ^ k) n ∷ []) (place k n)
-
--- where a call by level and number gives a value, both are in range and the value is the definition's
-pub tests-passed : {A : Type 0} (k n : ℕ) (a b : A) → inOrder (1 when ltb maxLevel k ∷ 4 when leb (8 * 4 ^ k) n ∷ []) a ≡ given b → (k ≤ maxLevel) × (n < 8 * 4 ^ k) × (a ≡ b)
-tests-passed {A} k n a b = by-tests (ltb maxLevel k) (leb (8 * 4 ^ k) n) refl refl
-  where
-    by-tests : (s t : Bool) → ltb maxLevel k ≡ s → leb (8 * 4 ^ k) n ≡ t → inOrder (1 when s ∷ 4 when t ∷ []) a ≡ given b → (k ≤ maxLevel) × (n < 8 * 4 ^ k) × (a ≡ b)
-    by-tests true t es et e = let z : _≡_ {A = ℕ} 0 1 = cc in absurd (omega arith)
-    by-tests false true es et e = let z : _≡_ {A = ℕ} 0 1 = cc in absurd (omega arith)
-    by-tests false false es et e = (ltb-false maxLevel k es, leb-false (8 * 4 ^ k) n et, cc)
+place-at-occurs k y x h = (octant-below y x, frame-at-span k (natAbs y) (offset x) (ltb-false q (natAbs y) h) (offset-below x))
 
 -- ---- products past 64 bits
 
@@ -270,8 +251,11 @@ row-rest x w h =
 
 -- row and column with what is left over of both
 module _ (k p m n : ℕ) (e : n ≡ 2 ^ k) where
-  pub holder-at : holder k p m ≡ cond (ltb (n * p % q * q + n * (m * (q - p)) % (q * q)) (q * q)) (up (n * p / q) (n * (m * (q - p)) / (q * q))) (down (n * p / q) (n * (m * (q - p)) / (q * q)))
-  unfolding holder T R
+  pub holder-at :
+      let a = n * p / q in
+      let b = n * (m * (q - p)) / (q * q) in
+      holder k p m ≡ cond (ltb (n * p % q * q + n * (m * (q - p)) % (q * q)) (q * q)) (up a b) (down a b)
+  unfolding holder scaledT scaledR
   holder-at = rw (row-whole (2 ^ k * p) q (omega arith), row-rest (2 ^ k * p) q (omega arith), mul-assoc (2 ^ k) m (q - p), e)
 
 -- ---- centres are positions below the pole, off the equator
@@ -321,11 +305,21 @@ m-near n y p d hn hd hw =
     record { top = omega arith; bottom = omega arith }
 
 -- a point so near the middle of a frame lies in it
-near-up : (Q t r a b : ℕ) → 0 < Q → Near Q t (3 * a + 1) → Near Q r (3 * b + 1) → Within Q t r (up a b)
-near-up Q t r a b h T R = omega arith
+near-frame : (Q t r : ℕ) (f : Frame) → 0 < Q → Near Q t (3 * row f + thirds f) → Near Q r (3 * col f + thirds f) → HoldsAt Q t r f
+unfolding row col thirds
+near-frame Q t r (up a b) h u v = omega arith
+near-frame Q t r (down a b) h u v = omega arith
 
-near-down : (Q t r a b : ℕ) → 0 < Q → Near Q t (3 * a + 2) → Near Q r (3 * b + 2) → Within Q t r (down a b)
-near-down Q t r a b h T R = omega arith
+-- the thirds of a frame that occurs leave room for one another, and are not 0
+thirds-fit : (n : ℕ) (f : Frame) → span f ≤ n → (3 * row f + thirds f) + (3 * col f + thirds f) < 3 * n
+unfolding row col thirds span
+thirds-fit n (up a b) h = omega arith
+thirds-fit n (down a b) h = omega arith
+
+thirds-positive : (f : Frame) → 0 < thirds f
+unfolding thirds
+thirds-positive (up a b) = omega arith
+thirds-positive (down a b) = omega arith
 
 -- p and m of the centre that lies x thirds of a row and y thirds of a column in, at N = n
 module _ (n x y : ℕ) (hn : 0 < n) (h : x + y < 3 * n) where
@@ -335,48 +329,44 @@ module _ (n x y : ℕ) (hn : 0 < n) (h : x + y < 3 * n) where
   rounded : 3 * n * pOf n x ≤ q * x
   rounded = mul-div-le (q * x) (3 * n)
 
-  apart : pOf n x + (q - pOf n x) ≡ q
-  apart = omega (arith, p-of-below)
+  p-and-rest : pOf n x + (q - pOf n x) ≡ q
+  p-and-rest = omega (arith, p-of-below)
 
   pub m-of-below : mOf n y (pOf n x) < q
-  m-of-below = rw apart at (m-below n x y (pOf n x) (q - pOf n x) hn (omega (arith, p-of-below)) (rw apart rounded) h)
+  m-of-below = rw p-and-rest at (m-below n x y (pOf n x) (q - pOf n x) hn (omega (arith, p-of-below)) (rw p-and-rest rounded) h)
 
   m-of-near : 6 * n ≤ q → Near (q * q) (n * mOf n y (pOf n x) * (q - pOf n x)) y
-  m-of-near hq = rw apart at (m-near n y (pOf n x) (q - pOf n x) hn (omega (arith, p-of-below)) (rw apart hq))
+  m-of-near hq = rw p-and-rest at (m-near n y (pOf n x) (q - pOf n x) hn (omega (arith, p-of-below)) (rw p-and-rest hq))
 
 pub centre-p-below : (k : ℕ) (f : Frame) → span f ≤ 2 ^ k → centreP k f < q
-unfolding centreP span
-centre-p-below k (up a b) h = p-of-below (2 ^ k) (3 * a + 1) (3 * b + 1) (pow-pos k) (omega arith)
-centre-p-below k (down a b) h = p-of-below (2 ^ k) (3 * a + 2) (3 * b + 2) (pow-pos k) (omega arith)
+unfolding centreP
+centre-p-below k f h = p-of-below (2 ^ k) (3 * row f + thirds f) (3 * col f + thirds f) (pow-pos k) (thirds-fit (2 ^ k) f h)
 
 pub centre-m-below : (k : ℕ) (f : Frame) → span f ≤ 2 ^ k → centreM k f < q
-unfolding centreP centreM span
-centre-m-below k (up a b) h = m-of-below (2 ^ k) (3 * a + 1) (3 * b + 1) (pow-pos k) (omega arith)
-centre-m-below k (down a b) h = m-of-below (2 ^ k) (3 * a + 2) (3 * b + 2) (pow-pos k) (omega arith)
+unfolding centreP centreM
+centre-m-below k f h = m-of-below (2 ^ k) (3 * row f + thirds f) (3 * col f + thirds f) (pow-pos k) (thirds-fit (2 ^ k) f h)
 
 pub centre-p-positive : (k : ℕ) (f : Frame) → 6 * 2 ^ k ≤ q → 1 ≤ centreP k f
 unfolding centreP
-centre-p-positive k (up a b) h = p-positive q (2 ^ k) (3 * a + 1) (pow-pos k) (omega arith) (omega arith)
-centre-p-positive k (down a b) h = p-positive q (2 ^ k) (3 * a + 2) (pow-pos k) (omega arith) (omega arith)
+centre-p-positive k f h = p-positive q (2 ^ k) (3 * row f + thirds f) (pow-pos k) (omega arith) (omega (arith, thirds-positive f))
 
 -- ---- the return: the cell at a cell's centre is the cell
 
 pub centre-held : (k : ℕ) (f : Frame) → 6 * 2 ^ k ≤ q → span f ≤ 2 ^ k → Holds k (centreP k f) (centreM k f) f
-unfolding Holds T R centreP centreM span
-centre-held k (up a b) hq h =
-    near-up (q * q) (T k (centreP k (up a b))) (R k (centreP k (up a b)) (centreM k (up a b))) a b (omega arith)
-    (p-near q (2 ^ k) (3 * a + 1) (pow-pos k) hq)
-    (m-of-near (2 ^ k) (3 * a + 1) (3 * b + 1) (pow-pos k) (omega arith) hq)
-centre-held k (down a b) hq h =
-    near-down (q * q) (T k (centreP k (down a b))) (R k (centreP k (down a b)) (centreM k (down a b))) a b (omega arith)
-    (p-near q (2 ^ k) (3 * a + 2) (pow-pos k) hq)
-    (m-of-near (2 ^ k) (3 * a + 2) (3 * b + 2) (pow-pos k) (omega arith) hq)
+unfolding scaledT scaledR centreP centreM
+centre-held k f hq h =
+    let x = 3 * row f + thirds f in
+    let y = 3 * col f + thirds f in
+    held-holds k (centreP k f) (centreM k f) f
+    (near-frame (q * q) (scaledT k (centreP k f)) (scaledR k (centreP k f) (centreM k f)) f (omega arith)
+    (p-near q (2 ^ k) x (pow-pos k) hq)
+    (m-of-near (2 ^ k) x y (pow-pos k) (thirds-fit (2 ^ k) f h) hq))
 
 centre-frame : (k : ℕ) (f : Frame) → 6 * 2 ^ k ≤ q → span f ≤ 2 ^ k → frameAt k (centreP k f) (centreM k f) ≡ f
 centre-frame k f hq h =
     frame-below k (centreP k f) (centreM k f) (centre-p-below k f h) ∙ sym (holds-holder k (centreP k f) (centreM k f) f (centre-held k f hq h))
 
--- the latitude of size p of an octant below 8: its size, and the octant that its sign makes of its quarter
+-- the latitude of size p of an octant below 8: its size, and the octant that its sign makes of the northern one
 latitude-size : (o p : ℕ) → natAbs (latitudeOf o p) ≡ p
 latitude-size o p = by-side (ltb o 4)
   where
@@ -388,14 +378,14 @@ latitude-size o p = by-side (ltb o 4)
     by-side true = refl
     by-side false = south p
 
-latitude-octant : (o p : ℕ) (x : ℤ) → o < 8 → 1 ≤ p → quarter x ≡ o % 4 → octant (latitudeOf o p) x ≡ o
+latitude-octant : (o p : ℕ) (x : ℤ) → o < 8 → 1 ≤ p → northOctant x ≡ o % 4 → octant (latitudeOf o p) x ≡ o
 latitude-octant o zero x ho hp e = absurd (omega arith)
 latitude-octant o (suc n) x ho hp e = by-side (ltb o 4) refl
   where
-    south : octant (negsuc n) x ≡ quarter x + 4
+    south : octant (negsuc n) x ≡ northOctant x + 4
     south = octant-south (negsuc n) x refl
 
-    north : octant (pos (suc n)) x ≡ quarter x
+    north : octant (pos (suc n)) x ≡ northOctant x
     north = octant-north (pos (suc n)) x (le-ltb (suc n) 0 (omega arith))
 
     by-side : (b : Bool) → ltb o 4 ≡ b → octant (cond b (pos (suc n)) (negℤ (pos (suc n)))) x ≡ o
@@ -409,7 +399,7 @@ centre-return k c hq h =
     let m = centreM k (c .1) in
     let hm = centre-m-below k (c .1) (h .1) in
     let x = beginning (c .0) +ℤ pos m in
-    let o = latitude-octant (c .0) p x (h .0) (centre-p-positive k (c .1) hq) (beginning-quarter (c .0) m hm) in
+    let o = latitude-octant (c .0) p x (h .0) (centre-p-positive k (c .1) hq) (beginning-octant (c .0) m hm) in
     rw (o, latitude-size (c .0) p, beginning-offset (c .0) m hm, centre-frame k (c .1) hq (h .1))
 
 -- ---- where centres lie: a centre's latitude is neither 0 nor a pole, and its longitude lies in its octant
@@ -418,75 +408,62 @@ pub centre-latitude : (k : ℕ) (c : Place) → 6 * 2 ^ k ≤ q → Occurs k c �
 unfolding centre
 centre-latitude k c hq h = rw (latitude-size (c .0) (centreP k (c .1))) (centre-p-positive k (c .1) hq, centre-p-below k (c .1) (h .1))
 
-pub centre-longitude : (k : ℕ) (c : Place) → Occurs k c → (longitudeOut (centre k c .1) ≡ false) × (quarter (centre k c .1) ≡ c .0 % 4)
+pub centre-longitude : (k : ℕ) (c : Place) → Occurs k c → (longitudeOut (centre k c .1) ≡ false) × (northOctant (centre k c .1) ≡ c .0 % 4)
 unfolding centre
 centre-longitude k c h =
     let hm = centre-m-below k (c .1) (h .1) in
-    (beginning-inside (c .0) (centreM k (c .1)) hm, beginning-quarter (c .0) (centreM k (c .1)) hm)
-
--- the two calls: the cell at the centre that a call gives is the number that it was given
-level-small : (k : ℕ) → k ≤ maxLevel → 6 * 2 ^ k ≤ q
-level-small k h = omega (arith, pow-mono {i = k} {j = 14} h)
-
-pub return-call : (k n : ℕ) (y x : ℤ) → centreCall k n ≡ given (y, x) → cellCall k y x ≡ given n
-return-call k n y x e =
-    let t = tests-passed k n (centre k (place k n)) (y, x) e in
-    let hq = level-small k (t .0) in
-    let o = place-occurs k n (t .1) in
-    let ey : centre k (place k n) .0 ≡ y = ap (λ (c : ℤ × ℤ). c .0) (t .2) in
-    let ex : centre k (place k n) .1 ≡ x = ap (λ (c : ℤ × ℤ). c .1) (t .2) in
-    let hy : natAbs y < q = rw ey at (centre-latitude k (place k n) hq o .1) in
-    let hx : longitudeOut x ≡ false = rw ex at (centre-longitude k (place k n) o .0) in
-    let r : placeAt k y x ≡ place k n = rw (ey, ex) at (centre-return k (place k n) hq o) in
-    simp (le-ltb maxLevel k (t .0), le-ltb q (natAbs y) (omega arith), hx) (ap (λ (c : Place). given (number k c)) r ∙ ap given (number-place k n))
-
--- and every number of a level that is not refused returns
-pub return-cell : (k n : ℕ) → k ≤ maxLevel → n < 8 * 4 ^ k → cellCall k (centre k (place k n) .0) (centre k (place k n) .1) ≡ given n
-return-cell k n hk hn =
-    return-call k n (centre k (place k n) .0) (centre k (place k n) .1) (simp (le-ltb maxLevel k hk, lt-leb (8 * 4 ^ k) n hn))
+    (beginning-inside (c .0) (centreM k (c .1)) hm, beginning-octant (c .0) (centreM k (c .1)) hm)
 
 -- ---- nesting: the cells of a position at all levels
 
 -- of what a frame holds, each point is held by one of its children at twice the scale
-record Next (Q t r : ℕ) (f : Frame) : Type 0 where
+record ChildHolds (Q t r : ℕ) (f : Frame) : Type 0 where
   digit : ℕ
   below : digit < 4
-  held : Within Q (2 * t) (2 * r) (child f digit)
+  held : HoldsAt Q (2 * t) (2 * r) (child f digit)
 
-next-up : (Q t r a b : ℕ) → Within Q t r (up a b) → (u v w : Bool) → ltb (2 * t) ((2 * a + 1) * Q) ≡ u → ltb (2 * r) ((2 * b + 1) * Q) ≡ v → ltb (2 * t + 2 * r) ((2 * a + 2 * b + 1) * Q) ≡ w → Next Q t r (up a b)
+child-up : (Q t r a b : ℕ) → HoldsAt Q t r (up a b) → (u v w : Bool) →
+    ltb (2 * t) ((2 * a + 1) * Q) ≡ u → ltb (2 * r) ((2 * b + 1) * Q) ≡ v →
+    ltb (2 * t + 2 * r) ((2 * a + 2 * b + 1) * Q) ≡ w → ChildHolds Q t r (up a b)
 unfolding child children
-next-up Q t r a b h false v w eu ev ew = record { digit = 1; below = omega arith; held = omega (arith, ltb-true, ltb-false) }
-next-up Q t r a b h true false w eu ev ew = record { digit = 3; below = omega arith; held = omega (arith, ltb-true, ltb-false) }
-next-up Q t r a b h true true true eu ev ew = record { digit = 2; below = omega arith; held = omega (arith, ltb-true, ltb-false) }
-next-up Q t r a b h true true false eu ev ew = record { digit = 0; below = omega arith; held = omega (arith, ltb-true, ltb-false) }
+child-up Q t r a b h false v w eu ev ew = record { digit = 1; below = omega arith; held = omega (arith, ltb-true, ltb-false) }
+child-up Q t r a b h true false w eu ev ew = record { digit = 3; below = omega arith; held = omega (arith, ltb-true, ltb-false) }
+child-up Q t r a b h true true true eu ev ew = record { digit = 2; below = omega arith; held = omega (arith, ltb-true, ltb-false) }
+child-up Q t r a b h true true false eu ev ew = record { digit = 0; below = omega arith; held = omega (arith, ltb-true, ltb-false) }
 
-next-down : (Q t r a b : ℕ) → Within Q t r (down a b) → (u v w : Bool) → ltb (2 * t) ((2 * a + 1) * Q) ≡ u → ltb (2 * r) ((2 * b + 1) * Q) ≡ v → ltb (2 * t + 2 * r) ((2 * a + 2 * b + 3) * Q) ≡ w → Next Q t r (down a b)
+child-down : (Q t r a b : ℕ) → HoldsAt Q t r (down a b) → (u v w : Bool) →
+    ltb (2 * t) ((2 * a + 1) * Q) ≡ u → ltb (2 * r) ((2 * b + 1) * Q) ≡ v →
+    ltb (2 * t + 2 * r) ((2 * a + 2 * b + 3) * Q) ≡ w → ChildHolds Q t r (down a b)
 unfolding child children
-next-down Q t r a b h true v w eu ev ew = record { digit = 1; below = omega arith; held = omega (arith, ltb-true, ltb-false) }
-next-down Q t r a b h false true w eu ev ew = record { digit = 2; below = omega arith; held = omega (arith, ltb-true, ltb-false) }
-next-down Q t r a b h false false true eu ev ew = record { digit = 0; below = omega arith; held = omega (arith, ltb-true, ltb-false) }
-next-down Q t r a b h false false false eu ev ew = record { digit = 3; below = omega arith; held = omega (arith, ltb-true, ltb-false) }
+child-down Q t r a b h true v w eu ev ew = record { digit = 1; below = omega arith; held = omega (arith, ltb-true, ltb-false) }
+child-down Q t r a b h false true w eu ev ew = record { digit = 2; below = omega arith; held = omega (arith, ltb-true, ltb-false) }
+child-down Q t r a b h false false true eu ev ew = record { digit = 0; below = omega arith; held = omega (arith, ltb-true, ltb-false) }
+child-down Q t r a b h false false false eu ev ew = record { digit = 3; below = omega arith; held = omega (arith, ltb-true, ltb-false) }
 
-next : (Q t r : ℕ) (f : Frame) → Within Q t r f → Next Q t r f
-next Q t r (up a b) h = next-up Q t r a b h _ _ _ refl refl refl
-next Q t r (down a b) h = next-down Q t r a b h _ _ _ refl refl refl
+child-holds : (Q t r : ℕ) (f : Frame) → HoldsAt Q t r f → ChildHolds Q t r f
+child-holds Q t r (up a b) h = child-up Q t r a b h _ _ _ refl refl refl
+child-holds Q t r (down a b) h = child-down Q t r a b h _ _ _ refl refl refl
 
 -- a frame that is a child of another
-pub record ChildOf (f g : Frame) : Type 0 where
-  pub digit : ℕ
-  pub below : digit < 4
-  pub same : g ≡ child f digit
+record ChildOf (f g : Frame) : Type 0 where
+  digit : ℕ
+  below : digit < 4
+  same : g ≡ child f digit
 
 doubled : (k x y : ℕ) → 2 * (2 ^ k * x * y) ≡ 2 ^ suc k * x * y
 doubled k x y = rw (pow-suc 2 k) (omega arith)
 
 holder-nested : (k p m : ℕ) → ChildOf (holder k p m) (holder (suc k) p m)
-unfolding holder T R
+unfolding holder scaledT scaledR
 holder-nested k p m =
-    let n = next (q * q) (T k p) (R k p m) (holder k p m) (within-frame (q * q) (T k p) (R k p m) (omega arith)) in
-    let e : 2 * T k p ≡ T (suc k) p = doubled k p q in
-    let f : 2 * R k p m ≡ R (suc k) p m = doubled k m (q - p) in
-    record { digit = n .digit; below = n .below; same = sym (within-unique (q * q) (T (suc k) p) (R (suc k) p m) (child (holder k p m) (n .digit)) (rw (e, f) at (n .held))) }
+    let n = child-holds (q * q) (scaledT k p) (scaledR k p m) (holder k p m) (point-held (q * q) (scaledT k p) (scaledR k p m) (omega arith)) in
+    let e : 2 * scaledT k p ≡ scaledT (suc k) p = doubled k p q in
+    let f : 2 * scaledR k p m ≡ scaledR (suc k) p m = doubled k m (q - p) in
+    record {
+      digit = n .digit;
+      below = n .below;
+      same = sym (point-unique (q * q) (scaledT (suc k) p) (scaledR (suc k) p m) (child (holder k p m) (n .digit)) (rw (e, f) at (n .held)));
+    }
 
 pole-nested : (k : ℕ) → ChildOf (up (2 ^ k - 1) 0) (up (2 ^ suc k - 1) 0)
 unfolding child children
@@ -500,11 +477,6 @@ frame-nested k p m = at-pole (eqb p q) refl
     at-pole false e = rw (frame-off k p m e, frame-off (suc k) p m e) (holder-nested k p m)
 
 -- the place of a position at the next level is a child of its place at this one, at the poles too
-pub record Nested (c d : Place) : Type 0 where
-  pub digit : ℕ
-  pub below : digit < 4
-  pub same : d ≡ (c .0, child (c .1) digit)
-
 pub place-nested : (k : ℕ) (y x : ℤ) → Nested (placeAt k y x) (placeAt (suc k) y x)
 unfolding placeAt
 place-nested k y x =
@@ -514,7 +486,7 @@ place-nested k y x =
 -- so its number there begins with the number here
 pub number-child : (k o d : ℕ) (f : Frame) → d < 4 → number (suc k) (o, child f d) ≡ 4 * number k (o, f) + d
 unfolding number digits
-number-child k o d f h = rw (origin-child f d h, pow-suc 4 k) (omega arith)
+number-child k o d f h = rw (as-child-child f d h, pow-suc 4 k) (omega arith)
 
 pub number-nested : (k : ℕ) (y x : ℤ) → number (suc k) (placeAt (suc k) y x) / 4 ≡ number k (placeAt k y x)
 number-nested k y x =

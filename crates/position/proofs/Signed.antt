@@ -1,6 +1,6 @@
 -- Signed numbers of 32 bits, as the code reads, turns and adds them. Everything past these facts is about natural numbers.
 -- Assumes nothing.
-use Prim.Native.Nat.{ℕ, zero, suc, _+_, _*_, _^_, _<_}
+use Prim.Native.Nat.{ℕ, zero, suc, _+_, _*_, _-_, _^_, _≤_, _<_}
 use mathlib.Core.Path.{_≡_, refl, sym, ap}
 use mathlib.Core.Bool.{true, false}
 use native.Mathlib.Omega.{arith}
@@ -9,7 +9,8 @@ use lib.Signed.{mag, ltZ, leZ}
 use mir.Syntax.{w32}
 use mir.Val.{toZ, ofZ}
 use mir.ValLaws.{toZ-ofZ}
-use borrow.Author.Tests.{lt-ltb, le-ltb, ltb-true, leb-false}
+use borrow.Author.Tests.{lt-ltb, le-ltb, le-leb, ltb-true, leb-false}
+use Rattle.refusal.proofs.Tests.{clash}
 use Rattle.position.specs.Position.{q, longitudeOut}
 
 -- the bits of a number that fits are that number
@@ -31,14 +32,14 @@ size-negative (negsuc n) h = omega arith
 
 pub size-positive : (z : ℤ) → ltZ z (pos 0) ≡ false → z ≡ pos (natAbs z)
 size-positive (pos n) h = refl
-size-positive (negsuc n) h = cc
+size-positive (negsuc n) h = clash refl h
 
 -- the two tests of a longitude's range
-pub west-out : (z : ℤ) → ltZ z (negsuc 179999999) ≡ true → true ≡ longitudeOut z
-west-out (pos n) h = cc
-west-out (negsuc n) h = sym h
+pub west-out : (z : ℤ) (n : ℕ) → 2 * q ≤ suc n → ltZ z (negsuc n) ≡ true → true ≡ longitudeOut z
+west-out (pos m) n l h = clash h refl
+west-out (negsuc m) n l h = sym (le-leb (2 * q) m (omega (arith, ltb-true n m h)))
 
-pub east-out : (z : ℤ) → ltZ z (negsuc 179999999) ≡ false → leZ (pos 180000000) z ≡ longitudeOut z
+pub east-out : (z : ℤ) → ltZ z (negsuc (2 * q - 1)) ≡ false → leZ (pos (2 * q)) z ≡ longitudeOut z
 east-out (pos n) h = refl
 east-out (negsuc n) h = sym h
 

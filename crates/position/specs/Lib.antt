@@ -1,2 +1,2 @@
 pub mod Position
-pub mod Parts
+pub mod inside

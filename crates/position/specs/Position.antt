@@ -1,13 +1,15 @@
 -- Positions and cells (document 01, "Position to cell" and "Cell to centre").
 -- Latitudes and longitudes are whole millionths of a degree. At level k, N is 2 ^ k.
-use Prim.Native.Nat.{ℕ, zero, suc, _+_, _*_, _-_, _/_, _%_, _^_, _≤_, _<_}
-use mathlib.Core.Bool.{Bool, true, false, cond}
+use Prim.Native.Nat.{ℕ, _+_, _*_, _-_, _/_, _%_, _^_, _≤_, _<_}
+use mathlib.Core.Bool.{Bool, cond}
 use mathlib.Core.List.{List, [], _∷_}
+use mathlib.Core.Path.{_≡_}
 use lib.Dec.{leb, ltb, eqb}
 use lib.IntN.{ℤ, pos, negsuc, natAbs, negℤ, _+ℤ_}
 use lib.ListN.{getD}
-use Rattle.refusal.specs.Answer.{Answer, given, refused, _when_, inOrder}
-use Rattle.cell.specs.Cell.{Frame, up, down, Place, place, number, maxLevel}
+use Rattle.refusal.specs.Answer.{Answer, given, refused, Test, _when_, inOrder}
+use Rattle.refusal.specs.Tests.{badLevel}
+use Rattle.cell.specs.Cell.{Frame, up, down, row, col, child, Place, place, number, maxLevel, cellTests}
 use Rattle.position.specs.declared.CellAnswer.{CellAnswer}
 use Rattle.position.specs.declared.CellAnswer.the-variants as cell-answer
 use Rattle.position.specs.declared.CentreAnswer.{CentreAnswer}
@@ -28,43 +30,48 @@ longitudeOut (pos x) = leb (2 * q) x
 longitudeOut (negsuc x) = leb (2 * q) x
 
 -- octants 0, 1, 2, 3 begin at longitudes 0, q, −2q, −q; 4 to 7 lie south of them
+abbrev pub beginnings : List ℤ
+beginnings = pos 0 ∷ pos q ∷ negℤ (pos (2 * q)) ∷ negℤ (pos q) ∷ []
+
 unfoldable pub beginning : ℕ → ℤ
-beginning o = getD (pos 0 ∷ pos q ∷ negℤ (pos (2 * q)) ∷ negℤ (pos q) ∷ []) (o % 4) (pos 0)
+beginning o = getD beginnings (o % 4) (pos 0)
 
 -- a longitude in range, counted east from −2q
 unfoldable pub fromWest : ℤ → ℕ
 fromWest x = natAbs (x +ℤ pos (2 * q))
 
 -- the northern octant of a longitude, and the longitude less its beginning, the paper's m
-unfoldable pub quarter : ℤ → ℕ
-quarter x = (fromWest x / q + 2) % 4
+unfoldable pub northOctant : ℤ → ℕ
+northOctant x = (fromWest x / q + 2) % 4
 
 unfoldable pub offset : ℤ → ℕ
 offset x = fromWest x % q
 
 -- negative latitude adds 4
 unfoldable pub octant : ℤ → ℤ → ℕ
-octant (pos y) x = quarter x
-octant (negsuc y) x = quarter x + 4
+octant (pos y) x = northOctant x
+octant (negsuc y) x = northOctant x + 4
 
 -- T and R, each times q²: T = N·p/q and R = N·m·(q−p)/q²
-unfoldable pub T : ℕ → ℕ → ℕ
-T k p = 2 ^ k * p * q
+unfoldable pub scaledT : ℕ → ℕ → ℕ
+scaledT k p = 2 ^ k * p * q
 
-unfoldable pub R : ℕ → ℕ → ℕ → ℕ
-R k p m = 2 ^ k * m * (q - p)
+unfoldable pub scaledR : ℕ → ℕ → ℕ → ℕ
+scaledR k p m = 2 ^ k * m * (q - p)
 
 -- what a frame of level k holds of its octant; both sides of each inequality times q²
 unfoldable pub Holds : ℕ → ℕ → ℕ → Frame → Type 0
-Holds k p m (up a b) = (a * (q * q) ≤ T k p) × (b * (q * q) ≤ R k p m) × (T k p + R k p m < (a + b + 1) * (q * q))
-Holds k p m (down a b) = (T k p < (a + 1) * (q * q)) × (R k p m < (b + 1) * (q * q)) × ((a + b + 1) * (q * q) ≤ T k p + R k p m)
+Holds k p m (up a b) =
+    (a * (q * q) ≤ scaledT k p) × (b * (q * q) ≤ scaledR k p m) × (scaledT k p + scaledR k p m < (a + b + 1) * (q * q))
+Holds k p m (down a b) =
+    (scaledT k p < (a + 1) * (q * q)) × (scaledR k p m < (b + 1) * (q * q)) × ((a + b + 1) * (q * q) ≤ scaledT k p + scaledR k p m)
 
 -- the frame that holds a position below the pole: the whole parts of T and R are row and column, and what is left over of both tells up from down
 unfoldable pub holder : ℕ → ℕ → ℕ → Frame
 holder k p m =
-    let a = T k p / (q * q) in
-    let b = R k p m / (q * q) in
-    cond (ltb (T k p % (q * q) + R k p m % (q * q)) (q * q)) (up a b) (down a b)
+    let a = scaledT k p / (q * q) in
+    let b = scaledR k p m / (q * q) in
+    cond (ltb (scaledT k p % (q * q) + scaledR k p m % (q * q)) (q * q)) (up a b) (down a b)
 
 -- at p = q the cell is up(N−1,0)
 unfoldable pub frameAt : ℕ → ℕ → ℕ → Frame
@@ -74,30 +81,49 @@ frameAt k p m = cond (eqb p q) (up (2 ^ k - 1) 0) (holder k p m)
 unfoldable pub placeAt : ℕ → ℤ → ℤ → Place
 placeAt k y x = (octant y x, frameAt k (natAbs y) (offset x))
 
+-- 2: the latitude is outside its range; 3: the longitude is
+abbrev pub badLatitude : ℤ → Test
+badLatitude y = 2 when latitudeOut y
+
+abbrev pub badLongitude : ℤ → Test
+badLongitude x = 3 when longitudeOut x
+
 -- cell at a position: refused 1, 2, 3
 abbrev pub cellCall : ℕ → ℤ → ℤ → Answer ℕ
-cellCall k y x =
-    inOrder (1 when ltb maxLevel k ∷ 2 when latitudeOut y ∷ 3 when longitudeOut x ∷ []) (number k (placeAt k y x))
+cellCall k y x = inOrder (badLevel maxLevel k ∷ badLatitude y ∷ badLongitude x ∷ []) (number k (placeAt k y x))
+
+-- a place that is a child of another, as the place of a position at level k + 1 is of its place at level k
+pub record Nested (c d : Place) : Type 0 where
+  pub digit : ℕ
+  pub below : digit < 4
+  pub same : d ≡ (c .0, child (c .1) digit)
 
 -- ---- cell to centre
 
--- p is the whole part of q(3a+s)/(3N), s = 1 for up and 2 for down
+-- the paper's s: 1 for up and 2 for down
+unfoldable pub thirds : Frame → ℕ
+thirds (up a b) = 1
+thirds (down a b) = 2
+
+-- p is the whole part of q(3a+s)/(3N)
 unfoldable pub centreP : ℕ → Frame → ℕ
-centreP k (up a b) = q * (3 * a + 1) / (3 * 2 ^ k)
-centreP k (down a b) = q * (3 * a + 2) / (3 * 2 ^ k)
+centreP k f = q * (3 * row f + thirds f) / (3 * 2 ^ k)
 
 -- m is the whole part of (3b+s)·q²/(3N(q−p))
 unfoldable pub centreM : ℕ → Frame → ℕ
-centreM k (up a b) = (3 * b + 1) * (q * q) / (3 * 2 ^ k * (q - centreP k (up a b)))
-centreM k (down a b) = (3 * b + 2) * (q * q) / (3 * 2 ^ k * (q - centreP k (down a b)))
+centreM k f = (3 * col f + thirds f) * (q * q) / (3 * 2 ^ k * (q - centreP k f))
+
+-- the latitude of size p of an octant: p, in the south −p
+abbrev pub latitudeOf : ℕ → ℕ → ℤ
+latitudeOf o p = cond (ltb o 4) (pos p) (negℤ (pos p))
 
 -- the centre's latitude is p, in the south −p; its longitude is the octant's beginning plus m
 unfoldable pub centre : ℕ → Place → ℤ × ℤ
-centre k c = (cond (ltb (c .0) 4) (pos (centreP k (c .1))) (negℤ (pos (centreP k (c .1)))), beginning (c .0) +ℤ pos (centreM k (c .1)))
+centre k c = (latitudeOf (c .0) (centreP k (c .1)), beginning (c .0) +ℤ pos (centreM k (c .1)))
 
 -- centre of a cell: refused 1, 4
 abbrev pub centreCall : ℕ → ℕ → Answer (ℤ × ℤ)
-centreCall k n = inOrder (1 when ltb maxLevel k ∷ 4 when leb (8 * 4 ^ k) n ∷ []) (centre k (place k n))
+centreCall k n = inOrder (cellTests k n) (centre k (place k n))
 
 -- ---- what the code's answers say
 

@@ -23,11 +23,15 @@ abbrev pub inOrder : {A : Type 0} → List Test → A → Answer A
 inOrder [] a = given a
 inOrder (t ∷ ts) a = unless t (inOrder ts a)
 
--- the same for a call that is lent a slice: what it leaves there where it is not refused; a refusal leaves all as it was
-abbrev pub unlessLent : {A S : Type 0} → S → Test → Answer A × S → Answer A × S
-unlessLent stays (n when true) rest = (refused n, stays)
-unlessLent stays (n when false) rest = rest
+-- what a call leaves in the slices that it was lent: a refused one leaves them as they were before
+abbrev pub leaving : {A S : Type 0} → Answer A → S → S → S
+leaving (given a) before after = after
+leaving (refused n) before after = before
 
-abbrev pub inOrderLent : {A S : Type 0} → List Test → S → A → S → Answer A × S
-inOrderLent [] stays a leaves = (given a, leaves)
-inOrderLent (t ∷ ts) stays a leaves = unlessLent stays t (inOrderLent ts stays a leaves)
+-- a call that is lent slices: its answer, and what they hold afterwards
+abbrev pub lending : {A S : Type 0} → Answer A → S → S → Answer A × S
+lending answer before after = (answer, leaving answer before after)
+
+-- the value of a call that has none to give beyond its work
+abbrev pub done : Unit {0}
+done = tt

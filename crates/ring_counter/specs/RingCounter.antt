@@ -1,18 +1,38 @@
--- What the ring counter prints (document 01, "Masks").
+-- What the ring counter prints (document 01, "Two programs"): a function of the bytes that it reads.
 use Prim.Native.Nat.{ℕ}
-use mathlib.Core.List.{List, [], _∷_}
+use mathlib.Core.List.{List, [], _∷_, _++_}
+use lib.ListN.{getD, drop}
 use Rattle.refusal.specs.Answer.{Answer, given, refused, inOrder}
+use Rattle.refusal.specs.Tests.{badLength}
 use Rattle.bitset.specs.Bits.{marked, size}
-use Rattle.mask.specs.Mask.{cells}
-use Rattle.mask.specs.Grow.{grownCells, badRings}
+use Rattle.cell.specs.Cell.{cells}
+use Rattle.grow.specs.Grow.{grownCells, badRings}
+use Rattle.text.specs.Text.{decimal}
 use Rattle.ring_counter.specs.declared.Outcome.{Outcome}
 use Rattle.ring_counter.specs.declared.Outcome.the-variants as outcome
 
--- of a mask of level 5 and a number of rings: the cells marked before growing and after it; refused 6
-abbrev pub ringCounts : ℕ → List ℕ → Answer (ℕ × ℕ)
-ringCounts m a = inOrder (badRings m ∷ []) (size (cells 5) (marked a), size (cells 5) (grownCells 5 m (marked a)))
+-- it reads one byte of rings and one mask of level 5, 1,024 bytes, and nothing after
+abbrev pub inputBytes : ℕ
+inputBytes = 1025
 
--- what the code's answers say
+-- of a ring count and a mask of level 5: the cells marked before growing and after it
+abbrev pub counts : ℕ → List ℕ → ℕ × ℕ
+counts m a = (size (cells 5) (marked a), size (cells 5) (grownCells 5 m (marked a)))
+
+-- of the input: refused 5 for any other length, 6
+abbrev pub ringCounts : List ℕ → Answer (ℕ × ℕ)
+ringCounts input = inOrder (badLength inputBytes input ∷ badRings (getD input 0 0) ∷ []) (counts (getD input 0 0) (drop 1 input))
+
+-- a line: the two numbers with a space between them, or `refused` and the number
+abbrev pub line : Answer (ℕ × ℕ) → List ℕ
+line (given c) = decimal (c .0) ++ (32 ∷ []) ++ decimal (c .1) ++ (10 ∷ [])
+line (refused n) = (114 ∷ 101 ∷ 102 ∷ 117 ∷ 115 ∷ 101 ∷ 100 ∷ 32 ∷ []) ++ decimal n ++ (10 ∷ [])
+
+-- what is printed
+abbrev pub output : List ℕ → List ℕ
+output input = line (ringCounts input)
+
+-- what the code's outcome says
 abbrev pub saidOutcome : Outcome → Answer (ℕ × ℕ)
 saidOutcome (outcome.Counts before after) = given (before, after)
 saidOutcome (outcome.Refused n) = refused n

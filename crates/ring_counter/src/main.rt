@@ -1,52 +1,32 @@
-// The ring counter of document 01, "Masks": reads one byte of rings and one mask of level 5 from standard input, nothing after, and prints
+// The ring counter of document 01, "Two programs": reads one byte of rings and one mask of level 5 from standard input, nothing after, and prints
 // how many cells are marked before and after growing, or the number by which it is refused.
 ghost use mathlib.Core.Path.{_≡_};
-ghost use lib.ListN.{length};
+ghost use lib.ListN.{length, take};
+ghost use Rattle.refusal.specs.Answer.{inOrder};
+ghost use Rattle.io.specs.Counts.{Counts};
 ghost use Rattle.bitset.specs.Bits.{marked, size};
-ghost use Rattle.ring_counter.specs.RingCounter.{ringCounts, saidOutcome};
+ghost use Rattle.cell.specs.Cell.{cells};
+ghost use mathlib.Core.List.{[], _∷_};
+ghost use Rattle.grow.specs.Grow.{badRings};
+ghost use Rattle.ring_counter.specs.RingCounter.{counts, ringCounts, line, output, saidOutcome};
+use grow::RingsAnswer;
 use mask::CountAnswer;
-use mask::GrowAnswer;
 
 const LEVEL: u32 = 5;
 
-// The cells marked before growing and after it, or the number by which growing is refused.
+// The bytes of the input, one of rings and a mask.
+const INPUT: usize = 1025;
+
+// The cells marked before growing and after it, or the number by which the input is refused.
 enum Outcome {
     Counts(u32, u32),
     Refused(u8),
 }
 
-// Standard output takes it all; a failed write is not reported.
-fn text(bytes: &[u8]) {
-    io::write_all(libc::STDOUT_FILENO, bytes);
-}
-
-fn number(n: u32) {
-    io::print_decimal(libc::STDOUT_FILENO, n as u64);
-}
-
-fn refused(n: u8) {
-    text(b"refused ");
-    number(n as u32);
-    text(b"\n");
-}
-
-// Whether the input is as long as it must be. What a failed read does not bring is missing, and a read that fails in place of the end does
-// not show the end: both count as a wrong length.
-fn read_input(rings: &mut [u8], mask: &mut [u8]) -> bool {
-    if io::read_full(libc::STDIN_FILENO, rings) != rings.len() {
-        return false;
-    }
-    if io::read_full(libc::STDIN_FILENO, mask) != mask.len() {
-        return false;
-    }
-    let mut after = [0u8; 1];
-    libc::read(libc::STDIN_FILENO, &mut after) == 0
-}
-
-// How many cells are marked.
+// How many cells of a mask of level 5 are marked.
 fn marked_cells(mask: &[u8]) -> u32
     requires { ⌜ length (now mask) ≡ 1024 ⌝ }
-    ensures { λ r. ⌜ r ≡ size 8192 (marked (now (mask .entry))) ⌝ }
+    ensures { λ r. ⌜ r ≡ size (cells 5) (marked (now (mask .entry))) ⌝ }
 {
     match mask::count(LEVEL, mask) {
         CountAnswer::Count(n) => n,
@@ -54,37 +34,63 @@ fn marked_cells(mask: &[u8]) -> u32
     }
 }
 
-// What growing by a number of rings comes to.
-fn count_rings(rings: u8, mask: &[u8], grown: &mut [u8], work: &mut [u8]) -> Outcome
-    requires { ⌜ (length (now mask) ≡ 1024) × (length (now grown) ≡ 1024) × (length (now work) ≡ 1024) ⌝ }
-    ensures { λ r. ⌜ saidOutcome r ≡ ringCounts rings (now (mask .entry)) ⌝ }
+// What growing a mask of level 5 by a number of rings comes to.
+fn grown_counts(rings: u8, mask: &[u8; 1024]) -> Outcome
+    ensures { λ r. ⌜ saidOutcome r ≡ inOrder (badRings rings ∷ []) (counts rings (now (mask .entry))) ⌝ }
 {
-    match mask::grow(LEVEL, rings as u32, mask, grown, work) {
-        GrowAnswer::Done => Outcome::Counts(marked_cells(mask), marked_cells(grown)),
-        GrowAnswer::Refused(n) => Outcome::Refused(n),
-    }
-}
-
-fn show(result: Outcome) {
-    match result {
-        Outcome::Counts(before, after) => {
-            number(before);
-            text(b" ");
-            number(after);
-            text(b"\n");
-        }
-        Outcome::Refused(n) => refused(n),
-    }
-}
-
-fn main() {
-    let mut rings = [0u8; 1];
-    let mut mask = [0u8; 1024];
     let mut grown = [0u8; 1024];
     let mut work = [0u8; 1024];
-    if read_input(&mut rings, &mut mask) {
-        show(count_rings(rings[0], &mask, &mut grown, &mut work));
-    } else {
-        refused(refusal::LENGTH);
+    match grow::grow(LEVEL, rings as u32, mask, &mut grown, &mut work) {
+        RingsAnswer::Done => Outcome::Counts(marked_cells(mask), marked_cells(&grown)),
+        RingsAnswer::Refused(n) => Outcome::Refused(n),
     }
+}
+
+// What the input comes to.
+fn outcome_of(input: &[u8]) -> Outcome
+    ensures { λ r. ⌜ saidOutcome r ≡ ringCounts (now (input .entry)) ⌝ }
+{
+    if input.len() != INPUT {
+        return Outcome::Refused(refusal::LENGTH);
+    }
+    let mut mask = [0u8; 1024];
+    bytes::copy(&input[1..], &mut mask);
+    grown_counts(input[0], &mask)
+}
+
+// Puts the line of an outcome into a slice, and answers its length.
+fn put_line(outcome: Outcome, out: &mut [u8; 64]) -> usize
+    ensures fits { λ r. ⌜ Counts r (now (out .exit)) ⌝ }
+    ensures text { λ r. ⌜ take r (now (out .exit)) ≡ line (saidOutcome outcome) ⌝ }
+{
+    match outcome {
+        Outcome::Counts(before, after) => {
+            let a = text::append_decimal(out, 0, before as u64);
+            let b = text::append(out, a, b" ");
+            let c = text::append_decimal(out, b, after as u64);
+            text::append(out, c, b"\n")
+        }
+        Outcome::Refused(n) => {
+            let a = text::append(out, 0, b"refused ");
+            let b = text::append_decimal(out, a, n as u64);
+            text::append(out, b, b"\n")
+        }
+    }
+}
+
+// What is printed for an input, put into a slice, and its length.
+fn output_of(input: &[u8], out: &mut [u8; 64]) -> usize
+    ensures fits { λ r. ⌜ Counts r (now (out .exit)) ⌝ }
+    ensures text { λ r. ⌜ take r (now (out .exit)) ≡ output (now (input .entry)) ⌝ }
+{
+    put_line(outcome_of(input), out)
+}
+
+// Reads one byte more than the input may have, so that a longer one is seen to be longer.
+fn main() {
+    let mut input = [0u8; 1026];
+    let n = io::read_full(libc::STDIN_FILENO, &mut input);
+    let mut out = [0u8; 64];
+    let k = output_of(&input[..n], &mut out);
+    io::write_all(libc::STDOUT_FILENO, &out[..k]);
 }

@@ -1,43 +1,40 @@
 -- What the code computes by: N as it shifts it, one less, its tests, and its places compared field by field.
 -- Assumes nothing.
 use Prim.Native.Nat.{ℕ, zero, suc, _*_, _-_, _%_, _^_, _≤_, _<_}
-use mathlib.Core.Bool.{Bool, true, false, false≢true, and-eq-true-iff}
+use mathlib.Core.Bool.{true, not, false≢true}
 use mathlib.Core.Logic.{_↔_}
 use mathlib.Core.Option.{none, some}
-use mathlib.Core.Path.{_≡_, refl, sym, ap, _∙_}
+use mathlib.Core.Path.{_≡_, refl, ap}
 use native.Mathlib.Omega.{arith}
 use lib.Dec.{leb, ltb, eqb}
 use lib.Pow.{pow-mono}
 use borrow.Author.Tests.{eqb-true, le-leb, eq-eqb, ne-eqb}
-use Rattle.cell.specs.Cell.{Frame, down, span, Place, number, Occurs, frameOf, placeOf}
+use Rattle.refusal.proofs.Tests.{parts, same-test}
+use Rattle.cell.specs.Cell.{Frame, down, span, Place, number, Occurs, frameOf, placeOf, maxLevel}
 use Rattle.cell.specs.declared.Kind.{Kind}
 use Rattle.cell.specs.declared.Kind.the-variants.{Up, Down}
 use Rattle.cell.specs.declared.Place as declared
 use Rattle.cell.proofs.Laws.{shifted}
-use Rattle.step.specs.Step.{less, inside, steps, step, leads}
-use Rattle.step.specs.Next.{sameKind, same}
-use Rattle.step.proofs.Laws.{code-cases, same-number}
+use Rattle.step.specs.Step.{less, foundIf, inside, steps, step, leadsTo}
+use Rattle.step.specs.inside.Target.{sameKind, samePlace}
+use Rattle.step.proofs.Laws.{code-cases, one-place}
 
 -- N as the code shifts it
-pub rows-shifted : (k : ℕ) → k ≤ 14 → 1 * 2 ^ k % 2 ^ 32 ≡ 2 ^ k
+pub rows-shifted : (k : ℕ) → k ≤ maxLevel → 1 * 2 ^ k % 2 ^ 32 ≡ 2 ^ k
 rows-shifted k h = shifted 32 k (omega arith)
 
 -- N is small
-pub rows-bound : (k : ℕ) → k ≤ 14 → 2 ^ k ≤ 2 ^ 14
-rows-bound k h = pow-mono {i = k} {j = 14} h
+pub rows-bound : (k : ℕ) → k ≤ maxLevel → 2 ^ k ≤ 2 ^ maxLevel
+rows-bound k h = pow-mono {i = k} {j = maxLevel} h
 
--- one less than a number above 0
-pub less-one : {A : Type 0} (n : ℕ) (f : ℕ → A) → ¬ (n ≡ 0) → less n f ≡ some (f (n - 1))
-less-one zero f h = absurd (h refl)
-less-one (suc n) f h = ap (λ (m : ℕ). some (f m)) (omega arith)
-
--- a frame with one less is inside the octant where every such frame is
-pub inside-less : (k o n : ℕ) (g : ℕ → Frame) → ((m : ℕ) → n ≡ suc m → span (g m) ≤ 2 ^ k) → inside k o (less n g) ≡ less n (λ m. (o, g m))
+-- a frame with one less is inside the octant where every such frame is: it is there where the number is not 0, as the code tests it
+pub inside-less : (k o n : ℕ) (g : ℕ → Frame) → ((m : ℕ) → n ≡ suc m → span (g m) ≤ 2 ^ k) →
+    inside k o (less n g) ≡ foundIf (not (eqb n 0)) (o, g (n - 1))
 inside-less k o zero g h = refl
-inside-less k o (suc m) g h = simp (le-leb _ _ (h m refl))
+inside-less k o (suc m) g h = let e : suc m - 1 ≡ m = omega arith in rw (e, le-leb _ _ (h m refl), ne-eqb (suc m) 0 (omega arith))
 
 -- whether a frame lies inside the octant, as the code tests it
-pub inside-test : (k n m : ℕ) → k ≤ 14 → m ≡ suc n → leb m (2 ^ k) ≡ ltb n (1 * 2 ^ k % 2 ^ 32)
+pub inside-test : (k n m : ℕ) → k ≤ maxLevel → m ≡ suc n → leb m (2 ^ k) ≡ ltb n (1 * 2 ^ k % 2 ^ 32)
 inside-test k n m h e = rw (rows-shifted k h, e)
 
 -- what a match knows of a number that met none of its first n arms
@@ -65,42 +62,42 @@ down-stays k o a b = code-cases (λ (c : ℕ). 4 < c → step k (o, down a b) c 
 
 -- ---- places that agree in each field
 
-same-frame : (s t : Kind) (a b a′ b′ : ℕ) → frameOf s a b ≡ frameOf t a′ b′ → (eqb a a′ ≡ true) × (eqb b b′ ≡ true) × (sameKind s t ≡ true)
-same-frame Up Up a b a′ b′ e = let x : a ≡ a′ = cc in let y : b ≡ b′ = cc in (eq-eqb a a′ x, eq-eqb b b′ y, refl)
-same-frame Up Down a b a′ b′ e = let z : _≡_ {A = ℕ} 0 1 = cc in absurd (omega arith)
-same-frame Down Up a b a′ b′ e = let z : _≡_ {A = ℕ} 0 1 = cc in absurd (omega arith)
-same-frame Down Down a b a′ b′ e = let x : a ≡ a′ = cc in let y : b ≡ b′ = cc in (eq-eqb a a′ x, eq-eqb b b′ y, refl)
+-- the kinds of two frames of one row and column tell them apart
+frames-same : (s t : Kind) (a b : ℕ) → sameKind s t ≡ true → frameOf s a b ≡ frameOf t a b
+frames-same Up Up a b e = refl
+frames-same Up Down a b e = absurd (false≢true e)
+frames-same Down Up a b e = absurd (false≢true e)
+frames-same Down Down a b e = refl
 
-frame-same : (s t : Kind) (a b : ℕ) → sameKind s t ≡ true → frameOf s a b ≡ frameOf t a b
-frame-same Up Up a b e = refl
-frame-same Up Down a b e = absurd (false≢true e)
-frame-same Down Up a b e = absurd (false≢true e)
-frame-same Down Down a b e = refl
+kinds-same : (s t : Kind) (a b a′ b′ : ℕ) → frameOf s a b ≡ frameOf t a′ b′ → (eqb a a′ ≡ true) × (eqb b b′ ≡ true) × (sameKind s t ≡ true)
+kinds-same Up Up a b a′ b′ e = (eq-eqb a a′ (cc), eq-eqb b b′ (cc), refl)
+kinds-same Up Down a b a′ b′ e = absurd (false≢true (cc))
+kinds-same Down Up a b a′ b′ e = absurd (false≢true (cc))
+kinds-same Down Down a b a′ b′ e = (eq-eqb a a′ (cc), eq-eqb b b′ (cc), refl)
 
 -- two places of the code agree in each field exactly where they are one place
-same-place : (p q : declared.Place) → (same p q ≡ true) ↔ (placeOf p ≡ placeOf q)
-same-place p q = (to, from)
+agree : (p q : declared.Place) → (samePlace p q ≡ true) ↔ (placeOf p ≡ placeOf q)
+agree p q = (to, from)
   where
-    to : same p q ≡ true → placeOf p ≡ placeOf q
+    to : samePlace p q ≡ true → placeOf p ≡ placeOf q
     to e =
-        let x = and-eq-true-iff _ _ .0 e in
-        let y = and-eq-true-iff _ _ .0 (x .0) in
-        let z = and-eq-true-iff _ _ .0 (y .0) in
+        let x = parts _ _ e in
+        let y = parts _ _ (x .0) in
+        let z = parts _ _ (y .0) in
         let o = eqb-true (p .octant) (q .octant) (z .0) in
         let a = eqb-true (p .row) (q .row) (z .1) in
         let b = eqb-true (p .col) (q .col) (y .1) in
-        let f : placeOf p .1 ≡ placeOf q .1 = rw (a, b) (frame-same (p .kind) (q .kind) (q .row) (q .col) (x .1)) in
+        let f : placeOf p .1 ≡ placeOf q .1 = rw (a, b) (frames-same (p .kind) (q .kind) (q .row) (q .col) (x .1)) in
         λ i. (o i, f i)
 
-    from : placeOf p ≡ placeOf q → same p q ≡ true
+    from : placeOf p ≡ placeOf q → samePlace p q ≡ true
     from e =
-        let f = same-frame (p .kind) (q .kind) (p .row) (p .col) (q .row) (q .col) (ap (λ (r : Place). r .1) e) in
+        let f = kinds-same (p .kind) (q .kind) (p .row) (p .col) (q .row) (q .col) (ap (λ (r : Place). r .1) e) in
         simp (eq-eqb (p .octant) (q .octant) (ap (λ (r : Place). r .0) e), f .0, f .1, f .2)
 
 -- so the code need not compare numbers
-pub same-leads : (k : ℕ) (p q : declared.Place) → Occurs k (placeOf p) → Occurs k (placeOf q) → same p q ≡ leads k (number k (placeOf q)) (some (placeOf p))
-same-leads k p q h g = go (same p q) refl
-  where
-    go : (t : Bool) → same p q ≡ t → t ≡ eqb (number k (placeOf p)) (number k (placeOf q))
-    go true e = sym (eq-eqb _ _ (ap (number k) (same-place p q .0 e)))
-    go false e = sym (ne-eqb _ _ (λ n. false≢true (sym e ∙ same-place p q .1 (same-number k (placeOf p) (placeOf q) h g n))))
+pub same-leads : (k : ℕ) (p q : declared.Place) → Occurs k (placeOf p) → Occurs k (placeOf q) →
+    samePlace p q ≡ leadsTo k (number k (placeOf q)) (some (placeOf p))
+same-leads k p q h g = same-test _ _
+    (λ e. eq-eqb _ _ (ap (number k) (agree p q .0 e)))
+    (λ e. agree p q .1 (one-place k (placeOf p) (placeOf q) h g (eqb-true _ _ e)))

@@ -12,9 +12,11 @@ use native.Mathlib.Omega.{arith}
 use lib.Dec.{leb, eqb}
 use lib.ListN.{getD, List·getD-map, List·getD-eq-default}
 use borrow.Author.Tests.{leb-true, leb-false, eqb-true, le-leb, eq-eqb, ne-eqb}
+use Rattle.refusal.proofs.Tests.{clash}
 use Rattle.cell.specs.Cell.{Frame, up, down, span, Place, place, number, Occurs}
 use Rattle.cell.proofs.Laws.{place-number, number-place}
-use Rattle.step.specs.Step.{across, east, west, less, only, inside, steps, step, leads, firstTrue, codeTo}
+use Rattle.step.specs.Step.{across, east, west, less, foundIf, inside, steps, step, leadsTo, firstTrue, codeTo}
+use Rattle.step.specs.Neighbours.{back, direct, Direct, One, Three}
 
 -- ---- the table as a relation
 
@@ -39,7 +41,8 @@ pub data Move (k : ℕ) : Place → ℕ → Place → Type 0 where
   over-W : {o o′ a b b′ : ℕ} → o′ ≡ west o → b ≡ 0 → b′ ≡ 2 ^ k - 1 - a → Move k (o, up a b) 7 (o′, up a b′)
 
 -- what holds of 0 to 7, and of all above, holds of each code
-pub code-cases : (P : ℕ → Type 0) → P 0 → P 1 → P 2 → P 3 → P 4 → P 5 → P 6 → P 7 → ((c : ℕ) → P (suc (suc (suc (suc (suc (suc (suc (suc c))))))))) → (c : ℕ) → P c
+pub code-cases : (P : ℕ → Type 0) → P 0 → P 1 → P 2 → P 3 → P 4 → P 5 → P 6 → P 7 →
+    ((c : ℕ) → P (suc (suc (suc (suc (suc (suc (suc (suc c))))))))) → (c : ℕ) → P c
 code-cases P p0 p1 p2 p3 p4 p5 p6 p7 past zero = p0
 code-cases P p0 p1 p2 p3 p4 p5 p6 p7 past (suc zero) = p1
 code-cases P p0 p1 p2 p3 p4 p5 p6 p7 past (suc (suc zero)) = p2
@@ -55,16 +58,17 @@ absent : {P : Type 0} (r : Place) → _≡_ {A = Option Place} none (some r) →
 absent r e = absurd (Option·none-ne-some r e)
 
 -- an entry that holds a step where a test holds
-only-cases : (P : Place → Type 0) (t : Bool) (x : Place) → (t ≡ true → P x) → (r : Place) → only t x ≡ some r → P r
-only-cases P true x h r e = subst P (Option·some-injective x r e) (h refl)
-only-cases P false x h r e = absent r e
+if-cases : (P : Place → Type 0) (t : Bool) (x : Place) → (t ≡ true → P x) → (r : Place) → foundIf t x ≡ some r → P r
+if-cases P true x h r e = subst P (Option·some-injective x r e) (h refl)
+if-cases P false x h r e = absent r e
 
 -- an entry that holds a step where its frame lies inside the octant
 inside-cases : (k o : ℕ) (P : Place → Type 0) (f : Frame) → (span f ≤ 2 ^ k → P (o, f)) → (r : Place) → inside k o (some f) ≡ some r → P r
-inside-cases k o P f h = only-cases P (leb (span f) (2 ^ k)) (o, f) (λ e. h (leb-true _ _ e))
+inside-cases k o P f h = if-cases P (leb (span f) (2 ^ k)) (o, f) (λ e. h (leb-true _ _ e))
 
 -- the same of a frame with one less than n
-less-cases : (k o : ℕ) (P : ℕ → Place → Type 0) (g : ℕ → Frame) → ((m : ℕ) → span (g m) ≤ 2 ^ k → P (suc m) (o, g m)) → (n : ℕ) (r : Place) → inside k o (less n g) ≡ some r → P n r
+less-cases : (k o : ℕ) (P : ℕ → Place → Type 0) (g : ℕ → Frame) →
+    ((m : ℕ) → span (g m) ≤ 2 ^ k → P (suc m) (o, g m)) → (n : ℕ) (r : Place) → inside k o (less n g) ≡ some r → P n r
 less-cases k o P g h zero r e = absent r e
 less-cases k o P g h (suc m) r e = inside-cases k o (P (suc m)) (g m) (h m) r e
 
@@ -80,9 +84,9 @@ step-move k p c r e = go (p .0) (p .1) c r e
         (inside-cases k o (Move k (o, up a b) 2) (down a b) (stay up-r) r)
         (inside-cases k o (Move k (o, up a b) 3) (up a (b + 1)) (stay (up-e (add-one b))) r)
         (less-cases k o (λ b r. Move k (o, up a b) 4 r) (λ b′. up a b′) (λ b′. stay (up-w refl)) b r)
-        (only-cases (Move k (o, up a b) 5) (eqb a 0) (across o, up a b) (λ e. over-T refl (eqb-true _ _ e)) r)
-        (only-cases (Move k (o, up a b) 6) (eqb (a + b + 1) (2 ^ k)) (east o, up a 0) (λ e. over-E refl (eqb-true _ _ e) refl) r)
-        (only-cases (Move k (o, up a b) 7) (eqb b 0) (west o, up a (2 ^ k - 1 - a)) (λ e. over-W refl (eqb-true _ _ e) refl) r)
+        (if-cases (Move k (o, up a b) 5) (eqb a 0) (across o, up a b) (λ e. over-T refl (eqb-true _ _ e)) r)
+        (if-cases (Move k (o, up a b) 6) (eqb (a + b + 1) (2 ^ k)) (east o, up a 0) (λ e. over-E refl (eqb-true _ _ e) refl) r)
+        (if-cases (Move k (o, up a b) 7) (eqb b 0) (west o, up a (2 ^ k - 1 - a)) (λ e. over-W refl (eqb-true _ _ e) refl) r)
         (λ c. absent r)
         c
     go o (down a b) c r = code-cases (λ (c : ℕ). step k (o, down a b) c ≡ some r → Move k (o, down a b) c r)
@@ -119,7 +123,20 @@ move-step k (over-W x e z) = simp (x, z, eq-eqb _ _ e)
 
 -- ---- where the codes lead
 
--- the codes t, l, r, e, w stay in the octant
+-- the steps inside an octant have the codes t, l, r, e, w
+inner-below : {f : Frame} {c : ℕ} {f′ : Frame} → Inner f c f′ → c < 5
+inner-below (up-t e) = omega arith
+inner-below (up-l e) = omega arith
+inner-below up-r = omega arith
+inner-below (up-e e) = omega arith
+inner-below (up-w e) = omega arith
+inner-below (down-t e) = omega arith
+inner-below down-l = omega arith
+inner-below (down-r e) = omega arith
+inner-below (down-e e) = omega arith
+inner-below (down-w e) = omega arith
+
+-- and stay in the octant
 pub inside-octant : (k : ℕ) (p : Place) (c : ℕ) (r : Place) → step k p c ≡ some r → c < 5 → r .0 ≡ p .0
 inside-octant k p c r e = go (step-move k p c r e)
   where
@@ -129,28 +146,39 @@ inside-octant k p c r e = go (step-move k p c r e)
     go (over-E x e z) g = absurd (omega arith)
     go (over-W x e z) g = absurd (omega arith)
 
--- of a step that up cells alone have, and that under a test: what holds of the table's entry holds of where the step leads
-up-alone : (k c : ℕ) (t : ℕ → ℕ → Bool) (g : ℕ → ℕ → ℕ → Place) (P : Place → Place → Type 0) → ((o a b : ℕ) → step k (o, up a b) c ≡ only (t a b) (g o a b)) → ((o a b : ℕ) → step k (o, down a b) c ≡ none) → ((o a b : ℕ) → P (o, up a b) (g o a b)) → (p r : Place) → step k p c ≡ some r → P p r
-up-alone k c t g P u d h p r e = go (p .0) (p .1) e
+-- T leads from an up cell in row 0 to the same row and column of the other hemisphere
+pub T-leads : (k : ℕ) (p r : Place) → step k p 5 ≡ some r → (o : ℕ) × (b : ℕ) × (p ≡ (o, up 0 b)) × (r ≡ (across o, up 0 b))
+T-leads k p r e = go (step-move k p 5 r e) refl
   where
-    go : (o : ℕ) (f : Frame) → step k (o, f) c ≡ some r → P (o, f) r
-    go o (up a b) e = only-cases (P (o, up a b)) (t a b) (g o a b) (λ s. h o a b) r (sym (u o a b) ∙ e)
-    go o (down a b) e = absent r (sym (d o a b) ∙ e)
+    go : {p : Place} {c : ℕ} {r : Place} → Move k p c r → c ≡ 5 → (o : ℕ) × (b : ℕ) × (p ≡ (o, up 0 b)) × (r ≡ (across o, up 0 b))
+    go (stay i h) f = absurd (omega (arith, inner-below i))
+    go (over-T {o} {o′} {a} {b} x e) f = (o, b, rw e, rw (x, e))
+    go (over-E x e z) f = absurd (omega arith)
+    go (over-W x e z) f = absurd (omega arith)
 
--- the code T changes the hemisphere alone
-pub hemisphere-alone : (k : ℕ) (p r : Place) → step k p 5 ≡ some r → r ≡ (across (p .0), p .1)
-unfolding step steps
-hemisphere-alone k = up-alone k 5 (λ a b. eqb a 0) (λ o a b. (across o, up a b)) (λ p r. r ≡ (across (p .0), p .1)) (λ o a b. refl) (λ o a b. refl) (λ o a b. refl)
+-- E leads from an up cell with a + b = N − 1 to up(a,0) of the octant to the east
+pub E-leads : (k : ℕ) (p r : Place) → step k p 6 ≡ some r →
+    (o : ℕ) × (a : ℕ) × (b : ℕ) × (a + b + 1 ≡ 2 ^ k) × (p ≡ (o, up a b)) × (r ≡ (east o, up a 0))
+E-leads k p r e = go (step-move k p 6 r e) refl
+  where
+    go : {p : Place} {c : ℕ} {r : Place} → Move k p c r → c ≡ 6 →
+        (o : ℕ) × (a : ℕ) × (b : ℕ) × (a + b + 1 ≡ 2 ^ k) × (p ≡ (o, up a b)) × (r ≡ (east o, up a 0))
+    go (stay i h) f = absurd (omega (arith, inner-below i))
+    go (over-T x e) f = absurd (omega arith)
+    go (over-E {o} {o′} {a} {b} x e z) f = (o, a, b, e, refl, rw (x, z))
+    go (over-W x e z) f = absurd (omega arith)
 
--- the code E goes to the octant to the east
-pub east-octant : (k : ℕ) (p r : Place) → step k p 6 ≡ some r → r .0 ≡ east (p .0)
-unfolding step steps
-east-octant k = up-alone k 6 (λ a b. eqb (a + b + 1) (2 ^ k)) (λ o a b. (east o, up a 0)) (λ p r. r .0 ≡ east (p .0)) (λ o a b. refl) (λ o a b. refl) (λ o a b. refl)
-
--- the code W goes to the octant to the west
-pub west-octant : (k : ℕ) (p r : Place) → step k p 7 ≡ some r → r .0 ≡ west (p .0)
-unfolding step steps
-west-octant k = up-alone k 7 (λ a b. eqb b 0) (λ o a b. (west o, up a (2 ^ k - 1 - a))) (λ p r. r .0 ≡ west (p .0)) (λ o a b. refl) (λ o a b. refl) (λ o a b. refl)
+-- W leads from an up cell with b = 0 to up(a,N−1−a) of the octant to the west
+pub W-leads : (k : ℕ) (p r : Place) → step k p 7 ≡ some r →
+    (o : ℕ) × (a : ℕ) × (p ≡ (o, up a 0)) × (r ≡ (west o, up a (2 ^ k - 1 - a)))
+W-leads k p r e = go (step-move k p 7 r e) refl
+  where
+    go : {p : Place} {c : ℕ} {r : Place} → Move k p c r → c ≡ 7 →
+        (o : ℕ) × (a : ℕ) × (p ≡ (o, up a 0)) × (r ≡ (west o, up a (2 ^ k - 1 - a)))
+    go (stay i h) f = absurd (omega (arith, inner-below i))
+    go (over-T x e) f = absurd (omega arith)
+    go (over-E x e z) f = absurd (omega arith)
+    go (over-W {o} {o′} {a} {b} x e z) f = (o, a, rw e, rw (x, z))
 
 -- east runs 0, 1, 2, 3, 0 and 4, 5, 6, 7, 4
 pub east-runs : map east (0 ∷ 1 ∷ 2 ∷ 3 ∷ 4 ∷ 5 ∷ 6 ∷ 7 ∷ []) ≡ 1 ∷ 2 ∷ 3 ∷ 0 ∷ 5 ∷ 6 ∷ 7 ∷ 4 ∷ []
@@ -181,42 +209,42 @@ step-occurs k p c r h e = go (step-move k p c r e) h
     go (over-W x e z) h = omega arith
 
 -- two places that occur and have one number are one place
-pub same-number : (k : ℕ) (p q : Place) → Occurs k p → Occurs k q → number k p ≡ number k q → p ≡ q
-same-number k p q h g e = sym (place-number k p h) ∙ ap (place k) e ∙ place-number k q g
+pub one-place : (k : ℕ) (p q : Place) → Occurs k p → Occurs k q → number k p ≡ number k q → p ≡ q
+one-place k p q h g e = sym (place-number k p h) ∙ ap (place k) e ∙ place-number k q g
 
 -- ---- one code for each neighbour
 
 -- the code of a step inside an octant, read off its two frames
-within : Frame → Frame → ℕ
-within (up a b) (down a′ b′) = 2 - 2 * (a - a′) - (b - b′)
-within (up a b) (up a′ b′) = 3 + (b - b′)
-within (down a b) (up a′ b′) = 1 + (b′ - b) - (a′ - a)
-within (down a b) (down a′ b′) = 3 + (b - b′)
+innerCode : Frame → Frame → ℕ
+innerCode (up a b) (down a′ b′) = 2 - 2 * (a - a′) - (b - b′)
+innerCode (up a b) (up a′ b′) = 3 + (b - b′)
+innerCode (down a b) (up a′ b′) = 1 + (b′ - b) - (a′ - a)
+innerCode (down a b) (down a′ b′) = 3 + (b - b′)
 
-within-code : {f : Frame} {c : ℕ} {f′ : Frame} → Inner f c f′ → within f f′ ≡ c
-unfolding within
-within-code (up-t e) = omega arith
-within-code (up-l e) = omega arith
-within-code up-r = omega arith
-within-code (up-e e) = omega arith
-within-code (up-w e) = omega arith
-within-code (down-t e) = omega arith
-within-code down-l = omega arith
-within-code (down-r e) = omega arith
-within-code (down-e e) = omega arith
-within-code (down-w e) = omega arith
+inner-code : {f : Frame} {c : ℕ} {f′ : Frame} → Inner f c f′ → innerCode f f′ ≡ c
+unfolding innerCode
+inner-code (up-t e) = omega arith
+inner-code (up-l e) = omega arith
+inner-code up-r = omega arith
+inner-code (up-e e) = omega arith
+inner-code (up-w e) = omega arith
+inner-code (down-t e) = omega arith
+inner-code down-l = omega arith
+inner-code (down-r e) = omega arith
+inner-code (down-e e) = omega arith
+inner-code (down-w e) = omega arith
 
 -- the code of a step, read off its two places: where the octants differ, they tell it
 between : Place → Place → ℕ
 between p r = pick (eqb (r .0) (p .0))
   where
     pick : Bool → ℕ
-    pick true = within (p .1) (r .1)
+    pick true = innerCode (p .1) (r .1)
     pick false = 5 + ((r .0 + 8 - p .0) % 4 + 1) / 2
 
 between-code : (k : ℕ) {p : Place} {c : ℕ} {r : Place} → p .0 < 8 → Move k p c r → between p r ≡ c
 unfolding between across east west
-between-code k g (stay {o} i h) = simp (eq-eqb o o refl) (within-code i)
+between-code k g (stay {o} i h) = simp (eq-eqb o o refl) (inner-code i)
 between-code k g (over-T {o} {o′} x e) = simp (ne-eqb o′ o (omega arith)) (omega arith)
 between-code k g (over-E {o} {o′} x e z) = simp (ne-eqb o′ o (omega arith)) (omega arith)
 between-code k g (over-W {o} {o′} x e z) = simp (ne-eqb o′ o (omega arith)) (omega arith)
@@ -226,10 +254,6 @@ pub code-unique : (k : ℕ) (p : Place) (c d : ℕ) (r : Place) → Occurs k p �
 code-unique k p c d r h e f = sym (between-code k (h .0) (step-move k p c r e)) ∙ between-code k (h .0) (step-move k p d r f)
 
 -- ---- the way back
-
--- the code back: t and T are their own, l and r change places, and so do e and w, E and W
-unfoldable pub back : ℕ → ℕ
-back c = getD (0 ∷ 2 ∷ 1 ∷ 4 ∷ 3 ∷ 5 ∷ 7 ∷ 6 ∷ []) c c
 
 -- each step can be taken back, along the code back
 pub step-back : (k : ℕ) (p : Place) (c : ℕ) (r : Place) → Occurs k p → step k p c ≡ some r → step k r (back c) ≡ some p
@@ -253,14 +277,6 @@ step-back k p c r h e = move-step k (go (step-move k p c r e) h)
     go (over-T {o} {o′} x e) h = let y : o ≡ across o′ = omega arith in over-T y e
     go (over-E {o} {o′} {a} {b} x e z) h = let y : o ≡ west o′ = omega arith in let w : b ≡ 2 ^ k - 1 - a = omega arith in over-W y z w
     go (over-W {o} {o′} {a} {b} {b′} x e z) h = let y : o ≡ east o′ = omega arith in let w : a + b′ + 1 ≡ 2 ^ k = omega arith in over-E y w e
-
--- the direct codes: t, l, r and T, E, W
-unfoldable pub direct : ℕ → Bool
-direct c = getD (true ∷ true ∷ true ∷ false ∷ false ∷ true ∷ true ∷ true ∷ []) c false
-
--- a place has a direct neighbour along one of them
-abbrev pub Direct : ℕ → Place → Place → Type 0
-Direct k p r = (c : ℕ) × (direct c ≡ true) × (step k p c ≡ some r)
 
 -- the codes back of t, l, r, T, E, W are t, r, l, T, W, E
 pub back-runs : map back (0 ∷ 1 ∷ 2 ∷ 5 ∷ 6 ∷ 7 ∷ []) ≡ 0 ∷ 2 ∷ 1 ∷ 5 ∷ 7 ∷ 6 ∷ []
@@ -286,31 +302,28 @@ direct-mutual k p r h d = (back (d .0), back-direct (d .0) (d .1), step-back k p
 
 -- ---- three direct neighbours
 
--- exactly one of two steps exists, and it leads to x
-abbrev pub One : Option Place → Option Place → Place → Type 0
-One s s′ x = ((s ≡ some x) × (s′ ≡ none)) ⊎ ((s ≡ none) × (s′ ≡ some x))
+-- the step that exists of two leads there
+one-first : {s s′ : Option Place} {x : Place} (r : Place) → One s s′ x → s ≡ some r → r ≡ x
+one-first {x = x} r (inl u) e = Option·some-injective r x (sym e ∙ u .0)
+one-first r (inr u) e = absent r (sym (u .0) ∙ e)
 
--- the direct neighbours of a place: one by t or T, one by l or W, one by r or E, all different
-pub record Three (k : ℕ) (p : Place) : Type 0 where
-  pub top : Place
-  pub left : Place
-  pub right : Place
-  pub by-top : One (step k p 0) (step k p 5) top
-  pub by-left : One (step k p 1) (step k p 7) left
-  pub by-right : One (step k p 2) (step k p 6) right
-  pub top-left : ¬ (top ≡ left)
-  pub left-right : ¬ (left ≡ right)
-  pub right-top : ¬ (right ≡ top)
+one-second : {s s′ : Option Place} {x : Place} (r : Place) → One s s′ x → s′ ≡ some r → r ≡ x
+one-second r (inl u) e = absent r (sym (u .1) ∙ e)
+one-second {x = x} r (inr u) e = Option·some-injective r x (sym e ∙ u .1)
 
 -- codes of two pairs that have none in common lead to different cells
-apart : (k : ℕ) (p : Place) (c c′ d d′ : ℕ) (x y : Place) → Occurs k p → One (step k p c) (step k p c′) x → One (step k p d) (step k p d′) y → (¬ (c ≡ d)) × (¬ (c ≡ d′)) × (¬ (c′ ≡ d)) × (¬ (c′ ≡ d′)) → ¬ (x ≡ y)
+apart : (k : ℕ) (p : Place) (c c′ d d′ : ℕ) (x y : Place) → Occurs k p →
+    One (step k p c) (step k p c′) x → One (step k p d) (step k p d′) y → (¬ (c ≡ d)) × (¬ (c ≡ d′)) × (¬ (c′ ≡ d)) × (¬ (c′ ≡ d′)) → ¬ (x ≡ y)
 apart k p c c′ d d′ x y h (inl u) (inl v) n e = n .0 (code-unique k p c d x h (u .0) (rw e (v .0)))
 apart k p c c′ d d′ x y h (inl u) (inr v) n e = n .1 (code-unique k p c d′ x h (u .0) (rw e (v .1)))
 apart k p c c′ d d′ x y h (inr u) (inl v) n e = n .2 (code-unique k p c′ d x h (u .1) (rw e (v .0)))
 apart k p c c′ d d′ x y h (inr u) (inr v) n e = n .3 (code-unique k p c′ d′ x h (u .1) (rw e (v .1)))
 
 -- one of each pair of direct steps exists
-pairs : (k o : ℕ) (f : Frame) → Occurs k (o, f) → ((x : Place) × One (step k (o, f) 0) (step k (o, f) 5) x) × ((x : Place) × One (step k (o, f) 1) (step k (o, f) 7) x) × ((x : Place) × One (step k (o, f) 2) (step k (o, f) 6) x)
+pairs : (k o : ℕ) (f : Frame) → Occurs k (o, f) →
+    ((x : Place) × One (step k (o, f) 0) (step k (o, f) 5) x)
+    × ((x : Place) × One (step k (o, f) 1) (step k (o, f) 7) x)
+    × ((x : Place) × One (step k (o, f) 2) (step k (o, f) 6) x)
 unfolding step steps span
 pairs k o (up a b) h = (top a b (h .1), left a b (h .1), right (leb (a + b + 2) (2 ^ k)) refl)
   where
@@ -323,13 +336,32 @@ pairs k o (up a b) h = (top a b (h .1), left a b (h .1), right (leb (a + b + 2) 
     left a (suc b) g = ((o, down a b), inl (move-step k (stay (up-l refl) (omega arith)), simp (ne-eqb (suc b) 0 (omega arith))))
 
     right : (t : Bool) → leb (a + b + 2) (2 ^ k) ≡ t → (x : Place) × One (step k (o, up a b) 2) (step k (o, up a b) 6) x
-    right true e = let g = leb-true (a + b + 2) (2 ^ k) e in ((o, down a b), inl (simp e, simp (ne-eqb (a + b + 1) (2 ^ k) (omega arith))))
-    right false e = let g = leb-false (a + b + 2) (2 ^ k) e in ((east o, up a 0), inr (simp e, simp (eq-eqb (a + b + 1) (2 ^ k) (omega arith))))
+    right true e =
+        let g = leb-true (a + b + 2) (2 ^ k) e in
+        ((o, down a b), inl (simp e, simp (ne-eqb (a + b + 1) (2 ^ k) (omega arith))))
+    right false e =
+        let g = leb-false (a + b + 2) (2 ^ k) e in
+        ((east o, up a 0), inr (simp e, simp (eq-eqb (a + b + 1) (2 ^ k) (omega arith))))
 pairs k o (down a b) h = (
   ((o, up (suc a) b), inl (move-step k (stay (down-t refl) (omega arith)), refl)),
   ((o, up a b), inl (move-step k (stay down-l (omega arith)), refl)),
   ((o, up a (suc b)), inl (move-step k (stay (down-r refl) (omega arith)), refl)),
 )
+
+-- a direct step is one of the six
+no-other : (k : ℕ) (p x y z : Place) → One (step k p 0) (step k p 5) x → One (step k p 1) (step k p 7) y → One (step k p 2) (step k p 6) z →
+    (r : Place) (c : ℕ) → direct c ≡ true → step k p c ≡ some r → (r ≡ x) ⊎ (r ≡ y) ⊎ (r ≡ z)
+unfolding direct
+no-other k p x y z t l s r = code-cases (λ (c : ℕ). direct c ≡ true → step k p c ≡ some r → (r ≡ x) ⊎ (r ≡ y) ⊎ (r ≡ z))
+    (λ d e. inl (one-first r t e))
+    (λ d e. inr (inl (one-first r l e)))
+    (λ d e. inr (inr (one-first r s e)))
+    (λ d e. clash d refl)
+    (λ d e. clash d refl)
+    (λ d e. inl (one-second r t e))
+    (λ d e. inr (inr (one-second r s e)))
+    (λ d e. inr (inl (one-second r l e)))
+    (λ c d e. clash d refl)
 
 -- a place that occurs has exactly three direct neighbours
 pub three-direct : (k : ℕ) (p : Place) → Occurs k p → Three k p
@@ -345,6 +377,7 @@ three-direct k p h =
       top-left = apart k p 0 5 1 7 (d .0 .0) (d .1 .0) h (d .0 .1) (d .1 .1) (omega arith);
       left-right = apart k p 1 7 2 6 (d .1 .0) (d .2 .0) h (d .1 .1) (d .2 .1) (omega arith);
       right-top = apart k p 2 6 0 5 (d .2 .0) (d .0 .0) h (d .2 .1) (d .0 .1) (omega arith);
+      only = λ r w. no-other k p (d .0 .0) (d .1 .0) (d .2 .0) (d .0 .1) (d .1 .1) (d .2 .1) r (w .0) (w .1) (w .2);
     }
 
 -- ---- the code between two cells
@@ -369,28 +402,28 @@ true-first (false ∷ ts) zero e u = absurd (false≢true e)
 true-first (false ∷ ts) (suc c) e u = rw (true-first ts c e (λ d g. let s = u (suc d) g in omega arith))
 
 -- a step that leads to cell n leads to a place of that number
-leads-place : (k n : ℕ) (s : Option Place) → leads k n s ≡ true → (r : Place) × (s ≡ some r) × (number k r ≡ n)
-leads-place k n none e = absurd (false≢true e)
-leads-place k n (some r) e = (r, refl, eqb-true (number k r) n e)
+leads-to-place : (k n : ℕ) (s : Option Place) → leadsTo k n s ≡ true → (r : Place) × (s ≡ some r) × (number k r ≡ n)
+leads-to-place k n none e = absurd (false≢true e)
+leads-to-place k n (some r) e = (r, refl, eqb-true (number k r) n e)
 
 -- one code at most leads from a place that occurs to cell n
-one-code : (k n : ℕ) (p : Place) (c d : ℕ) → Occurs k p → leads k n (step k p c) ≡ true → leads k n (step k p d) ≡ true → c ≡ d
+one-code : (k n : ℕ) (p : Place) (c d : ℕ) → Occurs k p → leadsTo k n (step k p c) ≡ true → leadsTo k n (step k p d) ≡ true → c ≡ d
 one-code k n p c d h e f =
-    let u = leads-place k n (step k p c) e in
-    let v = leads-place k n (step k p d) f in
-    let same = same-number k (v .0) (u .0) (step-occurs k p d (v .0) h (v .1)) (step-occurs k p c (u .0) h (u .1)) (v .2 ∙ sym (u .2)) in
-    code-unique k p c d (u .0) h (u .1) (v .1 ∙ ap some same)
+    let u = leads-to-place k n (step k p c) e in
+    let v = leads-to-place k n (step k p d) f in
+    let one = one-place k (v .0) (u .0) (step-occurs k p d (v .0) h (v .1)) (step-occurs k p c (u .0) h (u .1)) (v .2 ∙ sym (u .2)) in
+    code-unique k p c d (u .0) h (u .1) (v .1 ∙ ap some one)
 
 -- the code to cell n is c exactly where the step along c leads to cell n
-pub code-leads : (k n : ℕ) (p : Place) (c : ℕ) → Occurs k p → (codeTo k n p ≡ some c) ↔ (leads k n (step k p c) ≡ true)
+pub code-leads : (k n : ℕ) (p : Place) (c : ℕ) → Occurs k p → (codeTo k n p ≡ some c) ↔ (leadsTo k n (step k p c) ≡ true)
 unfolding codeTo step
 code-leads k n p c h = (
   λ e. sym (at c) ∙ first-true _ c e,
   λ e. true-first _ c (at c ∙ e) (λ d g. one-code k n p d c h (sym (at d) ∙ g) e),
 )
   where
-    at : (i : ℕ) → getD (map (leads k n) (steps k (p .0) (p .1))) i false ≡ leads k n (step k p i)
-    at i = List·getD-map (leads k n) (steps k (p .0) (p .1)) i none
+    at : (i : ℕ) → getD (map (leadsTo k n) (steps k (p .0) (p .1))) i false ≡ leadsTo k n (step k p i)
+    at i = List·getD-map (leadsTo k n) (steps k (p .0) (p .1)) i none
 
 -- and so exactly where that step leads to the cell's place
 pub code-step : (k n : ℕ) (p : Place) (c : ℕ) → Occurs k p → (codeTo k n p ≡ some c) ↔ (step k p c ≡ some (place k n))
@@ -398,7 +431,7 @@ code-step k n p c h = (to, from)
   where
     to : codeTo k n p ≡ some c → step k p c ≡ some (place k n)
     to e =
-        let u = leads-place k n (step k p c) (code-leads k n p c h .0 e) in
+        let u = leads-to-place k n (step k p c) (code-leads k n p c h .0 e) in
         let q = place-number k (u .0) (step-occurs k p c (u .0) h (u .1)) in
         u .1 ∙ ap some (sym q ∙ ap (place k) (u .2))
 
@@ -415,13 +448,27 @@ past-seven k p c = go (p .0) (p .1)
     go o (down a b) = List·getD-eq-default (steps k o (down a b)) none {n = c}
 
 -- there is no code to cell n where none of the eight leads there
-pub no-code : (k n : ℕ) (p : Place) → Occurs k p → ((c : ℕ) → c < 8 → leads k n (step k p c) ≡ false) → codeTo k n p ≡ none
+pub no-code : (k n : ℕ) (p : Place) → Occurs k p → ((c : ℕ) → c < 8 → leadsTo k n (step k p c) ≡ false) → codeTo k n p ≡ none
 no-code k n p h u = go (codeTo k n p) refl
   where
-    past : (c : ℕ) → leads k n (step k p c) ≡ true → (t : Bool) → leb 8 c ≡ t → ⊥
+    past : (c : ℕ) → leadsTo k n (step k p c) ≡ true → (t : Bool) → leb 8 c ≡ t → ⊥
     past c l true e = false≢true (rw (past-seven k p c (leb-true 8 c e)) at l)
     past c l false e = false≢true (sym (u c (leb-false 8 c e)) ∙ l)
 
     go : (s : Option ℕ) → codeTo k n p ≡ s → s ≡ none
     go none e = refl
     go (some c) e = absurd (past c (code-leads k n p c h .0 e) (leb 8 c) refl)
+
+-- a direct code is one of the eight
+pub direct-low : (c : ℕ) → direct c ≡ true → c < 8
+unfolding direct
+direct-low = code-cases (λ (c : ℕ). direct c ≡ true → c < 8)
+    (λ e. omega arith)
+    (λ e. omega arith)
+    (λ e. omega arith)
+    (λ e. omega arith)
+    (λ e. omega arith)
+    (λ e. omega arith)
+    (λ e. omega arith)
+    (λ e. omega arith)
+    (λ c e. absurd (false≢true e))

@@ -1,2 +1,3 @@
 pub mod Step
-pub mod Next
+pub mod Neighbours
+pub mod inside

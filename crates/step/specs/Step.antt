@@ -3,10 +3,11 @@ use Prim.Native.Nat.{ℕ, zero, suc, _+_, _*_, _-_, _/_, _%_, _^_}
 use mathlib.Core.Bool.{Bool, true, false}
 use mathlib.Core.List.{List, [], _∷_, map}
 use mathlib.Core.Option.{Option, none, some}
-use lib.Dec.{leb, ltb, eqb}
+use lib.Dec.{leb, eqb}
 use lib.ListN.{getD}
-use Rattle.refusal.specs.Answer.{Answer, given, refused, _when_, unless}
-use Rattle.cell.specs.Cell.{Frame, up, down, span, Place, place, number, maxLevel}
+use Rattle.refusal.specs.Answer.{Answer, given, refused, Test, _when_, inOrder}
+use Rattle.refusal.specs.Tests.{badLevel}
+use Rattle.cell.specs.Cell.{Frame, up, down, span, Place, place, number, maxLevel, badCell}
 use Rattle.step.specs.declared.StepAnswer.{StepAnswer}
 use Rattle.step.specs.declared.StepAnswer.the-variants as step-answer
 use Rattle.step.specs.declared.CodeAnswer.{CodeAnswer}
@@ -33,14 +34,14 @@ less zero f = none
 less (suc n) f = some (f n)
 
 -- what is found where a test holds
-abbrev pub only : {A : Type 0} → Bool → A → Option A
-only true x = some x
-only false x = none
+abbrev pub foundIf : {A : Type 0} → Bool → A → Option A
+foundIf true x = some x
+foundIf false x = none
 
 -- a frame, where it lies inside the octant at level k
 abbrev pub inside : ℕ → ℕ → Option Frame → Option Place
 inside k o none = none
-inside k o (some f) = only (leb (span f) (2 ^ k)) (o, f)
+inside k o (some f) = foundIf (leb (span f) (2 ^ k)) (o, f)
 
 -- the steps from a place of octant o, for the codes t, l, r, e, w, T, E, W in turn
 unfoldable pub steps : ℕ → ℕ → Frame → List (Option Place)
@@ -50,9 +51,9 @@ steps k o (up a b) =
     ∷ inside k o (some (down a b))
     ∷ inside k o (some (up a (b + 1)))
     ∷ inside k o (less b (λ b′. up a b′))
-    ∷ only (eqb a 0) (across o, up a b)
-    ∷ only (eqb (a + b + 1) (2 ^ k)) (east o, up a 0)
-    ∷ only (eqb b 0) (west o, up a (2 ^ k - 1 - a))
+    ∷ foundIf (eqb a 0) (across o, up a b)
+    ∷ foundIf (eqb (a + b + 1) (2 ^ k)) (east o, up a 0)
+    ∷ foundIf (eqb b 0) (west o, up a (2 ^ k - 1 - a))
     ∷ []
 steps k o (down a b) =
     inside k o (some (up (a + 1) b))
@@ -69,21 +70,12 @@ steps k o (down a b) =
 unfoldable pub step : ℕ → Place → ℕ → Option Place
 step k p code = getD (steps k (p .0) (p .1)) code none
 
--- ---- the two calls
-
--- 7 where nothing is found
-abbrev pub found : {A B : Type 0} → (A → B) → Option A → Answer B
-found f none = refused 7
-found f (some x) = given (f x)
-
--- step along a code: refused 1, 4, 7
-abbrev pub stepCall : ℕ → ℕ → ℕ → Answer ℕ
-stepCall k n code = unless (1 when ltb maxLevel k) (unless (4 when leb (8 * 4 ^ k) n) (found (number k) (step k (place k n) code)))
+-- ---- the code between two cells
 
 -- whether a step leads to cell n
-abbrev pub leads : ℕ → ℕ → Option Place → Bool
-leads k n none = false
-leads k n (some p) = eqb (number k p) n
+abbrev pub leadsTo : ℕ → ℕ → Option Place → Bool
+leadsTo k n none = false
+leadsTo k n (some p) = eqb (number k p) n
 
 -- where the first true stands in a list
 unfoldable pub firstTrue : List Bool → Option ℕ
@@ -97,15 +89,36 @@ firstTrue (b ∷ bs) = pick b (firstTrue bs)
 
 -- the code along which the step from a place leads to cell n
 unfoldable pub codeTo : ℕ → ℕ → Place → Option ℕ
-codeTo k n p = firstTrue (map (leads k n) (steps k (p .0) (p .1)))
+codeTo k n p = firstTrue (map (leadsTo k n) (steps k (p .0) (p .1)))
+
+-- ---- the two calls
+
+-- whether nothing is found; and what is found, with another value where nothing is, which the test for 7 hides
+abbrev pub missing : {A : Type 0} → Option A → Bool
+missing none = true
+missing (some x) = false
+
+abbrev pub foundOr : {A : Type 0} → A → Option A → A
+foundOr a none = a
+foundOr a (some x) = x
+
+-- 7: no such step
+abbrev pub badStep : {A : Type 0} → Option A → Test
+badStep s = 7 when missing s
+
+-- step along a code: refused 1, 4, 7
+abbrev pub stepCall : ℕ → ℕ → ℕ → Answer ℕ
+stepCall k n code =
+    inOrder
+    (badLevel maxLevel k ∷ badCell k n ∷ badStep (step k (place k n) code) ∷ [])
+    (number k (foundOr (place k n) (step k (place k n) code)))
 
 -- code between two cells: refused 1, 4, 7
 abbrev pub codeCall : ℕ → ℕ → ℕ → Answer ℕ
 codeCall k m n =
-    unless (1 when ltb maxLevel k)
-    (unless (4 when leb (8 * 4 ^ k) m)
-    (unless (4 when leb (8 * 4 ^ k) n)
-    (found (λ (c : ℕ). c) (codeTo k n (place k m)))))
+    inOrder
+    (badLevel maxLevel k ∷ badCell k m ∷ badCell k n ∷ badStep (codeTo k n (place k m)) ∷ [])
+    (foundOr 0 (codeTo k n (place k m)))
 
 -- what the code's answers say
 abbrev pub saidStep : StepAnswer → Answer ℕ

@@ -1,11 +1,12 @@
 // Steps between cells along the eight codes: document 01, "Steps and codes".
 // Codes 0 to 7 are t, l, r, e, w, T, E, W. At level k an octant has N = 2^k rows.
+ghost use mathlib.Core.List.{[], _∷_};
 ghost use mathlib.Core.Path.{_≡_};
-ghost use Prim.Native.Nat.{ℕ, _≤_, _<_};
-ghost use Rattle.cell.specs.Cell.{Occurs, placeOf, frameOf, number, up, down};
-ghost use Rattle.step.specs.Step as Step;
-ghost use Rattle.step.specs.Step.{less, leads, found, codeTo, stepCall, codeCall, saidStep, saidCode};
-ghost use Rattle.step.specs.Next.{nextOf, sameKind, same};
+ghost use Prim.Native.Nat.{_-_, _≤_};
+ghost use Rattle.refusal.specs.Answer.{inOrder};
+ghost use Rattle.cell.specs.Cell.{Occurs, placeOf, frameOf, number, up, down, maxLevel};
+ghost use Rattle.step.specs.Step.{foundIf, foundOr, badStep, step, leadsTo, codeTo, stepCall, codeCall, saidStep, saidCode};
+ghost use Rattle.step.specs.inside.Target.{targetOf, sameKind, samePlace};
 use cell::CellNumber;
 use cell::Kind;
 use cell::NumberAnswer;
@@ -15,49 +16,34 @@ use cell::PlaceAnswer;
 // The number of codes.
 const CODES: u8 = 8;
 
+// What is answered for a step: the cell it leads to, or a refusal.
 pub enum StepAnswer {
     To(CellNumber),
     Refused(u8),
 }
 
+// What is answered for two cells: the code that joins them, or a refusal.
 pub enum CodeAnswer {
     Along(u8),
     Refused(u8),
 }
 
 // Where a step leads.
-enum Next {
+enum Target {
     At(Place),
     Nowhere,
 }
 
-// The octant in the other hemisphere.
-fn across(octant: u32) -> u32
-    requires { ⌜ octant < 8 ⌝ }
-    ensures { λ r. ⌜ r ≡ Step.across octant ⌝ }
+// One less than a number above 0.
+fn one_less(number: u32) -> u32
+    ensures { λ r. ⌜ r ≡ number - 1 ⌝ }
 {
-    (octant + 4) % 8
-}
-
-// The octant to the east: 0, 1, 2, 3, 0 and 4, 5, 6, 7, 4.
-fn east(octant: u32) -> u32
-    requires { ⌜ octant < 8 ⌝ }
-    ensures { λ r. ⌜ r ≡ Step.east octant ⌝ }
-{
-    octant / 4 * 4 + (octant + 1) % 4
-}
-
-// The octant to the west.
-fn west(octant: u32) -> u32
-    requires { ⌜ octant < 8 ⌝ }
-    ensures { λ r. ⌜ r ≡ Step.west octant ⌝ }
-{
-    octant / 4 * 4 + (octant + 3) % 4
+    if number == 0 { 0 } else { number - 1 }
 }
 
 // A place, where a test holds.
-fn only(exists: bool, octant: u32, kind: Kind, row: u32, col: u32) -> Next
-    ensures { λ r. ⌜ nextOf r ≡ Step.only exists (octant, frameOf kind row col) ⌝ }
+fn found_if(exists: bool, octant: u32, kind: Kind, row: u32, col: u32) -> Target
+    ensures { λ r. ⌜ targetOf r ≡ foundIf exists (octant, frameOf kind row col) ⌝ }
 {
     if exists {
         let place = Place {
@@ -66,72 +52,55 @@ fn only(exists: bool, octant: u32, kind: Kind, row: u32, col: u32) -> Next
             row,
             col,
         };
-        return Next::At(place);
+        return Target::At(place);
     }
-    Next::Nowhere
+    Target::Nowhere
 }
 
-// The place one row nearer to the equator, where there is one.
-fn row_before(octant: u32, kind: Kind, row: u32, col: u32) -> Next
-    ensures { λ r. ⌜ nextOf r ≡ less row (λ a. (octant, frameOf kind a col)) ⌝ }
-{
-    if row == 0 {
-        return Next::Nowhere;
-    }
-    only(true, octant, kind, row - 1, col)
-}
-
-// The place one column to the west, where there is one.
-fn col_before(octant: u32, kind: Kind, row: u32, col: u32) -> Next
-    ensures { λ r. ⌜ nextOf r ≡ less col (λ b. (octant, frameOf kind row b)) ⌝ }
-{
-    if col == 0 {
-        return Next::Nowhere;
-    }
-    only(true, octant, kind, row, col - 1)
-}
-
-// The step from an up cell.
-fn from_up(level: u32, octant: u32, row: u32, col: u32, code: u8) -> Next
-    requires { ⌜ (level ≤ 14) × Occurs level (octant, up row col) ⌝ }
-    ensures { λ r. ⌜ nextOf r ≡ Step.step level (octant, up row col) code ⌝ }
+// The step from an up cell. East runs 0, 1, 2, 3, 0 and 4, 5, 6, 7, 4.
+fn from_up(level: u32, octant: u32, row: u32, col: u32, code: u8) -> Target
+    requires { ⌜ (level ≤ maxLevel) × Occurs level (octant, up row col) ⌝ }
+    ensures { λ r. ⌜ targetOf r ≡ step level (octant, up row col) code ⌝ }
 {
     let rows: u32 = 1 << level;
     let end = row + col + 1;
+    let across = (octant + 4) % 8;
+    let east = octant / 4 * 4 + (octant + 1) % 4;
+    let west = octant / 4 * 4 + (octant + 3) % 4;
     match code {
-        0 => row_before(octant, Kind::Down, row, col),
-        1 => col_before(octant, Kind::Down, row, col),
-        2 => only(end < rows, octant, Kind::Down, row, col),
-        3 => only(end < rows, octant, Kind::Up, row, col + 1),
-        4 => col_before(octant, Kind::Up, row, col),
-        5 => only(row == 0, across(octant), Kind::Up, row, col),
-        6 => only(end == rows, east(octant), Kind::Up, row, 0),
-        7 => only(col == 0, west(octant), Kind::Up, row, rows - 1 - row),
-        _ => Next::Nowhere,
+        0 => found_if(row != 0, octant, Kind::Down, one_less(row), col),
+        1 => found_if(col != 0, octant, Kind::Down, row, one_less(col)),
+        2 => found_if(end < rows, octant, Kind::Down, row, col),
+        3 => found_if(end < rows, octant, Kind::Up, row, col + 1),
+        4 => found_if(col != 0, octant, Kind::Up, row, one_less(col)),
+        5 => found_if(row == 0, across, Kind::Up, row, col),
+        6 => found_if(end == rows, east, Kind::Up, row, 0),
+        7 => found_if(col == 0, west, Kind::Up, row, rows - 1 - row),
+        _ => Target::Nowhere,
     }
 }
 
 // The step from a down cell.
-fn from_down(level: u32, octant: u32, row: u32, col: u32, code: u8) -> Next
-    requires { ⌜ (level ≤ 14) × Occurs level (octant, down row col) ⌝ }
-    ensures { λ r. ⌜ nextOf r ≡ Step.step level (octant, down row col) code ⌝ }
+fn from_down(level: u32, octant: u32, row: u32, col: u32, code: u8) -> Target
+    requires { ⌜ (level ≤ maxLevel) × Occurs level (octant, down row col) ⌝ }
+    ensures { λ r. ⌜ targetOf r ≡ step level (octant, down row col) code ⌝ }
 {
     let rows: u32 = 1 << level;
     let end = row + col + 2;
     match code {
-        0 => only(true, octant, Kind::Up, row + 1, col),
-        1 => only(true, octant, Kind::Up, row, col),
-        2 => only(true, octant, Kind::Up, row, col + 1),
-        3 => only(end < rows, octant, Kind::Down, row, col + 1),
-        4 => col_before(octant, Kind::Down, row, col),
-        _ => Next::Nowhere,
+        0 => found_if(true, octant, Kind::Up, row + 1, col),
+        1 => found_if(true, octant, Kind::Up, row, col),
+        2 => found_if(true, octant, Kind::Up, row, col + 1),
+        3 => found_if(end < rows, octant, Kind::Down, row, col + 1),
+        4 => found_if(col != 0, octant, Kind::Down, row, one_less(col)),
+        _ => Target::Nowhere,
     }
 }
 
 // The step from a place that occurs.
-fn next_of(level: u32, place: Place, code: u8) -> Next
-    requires { ⌜ (level ≤ 14) × Occurs level (placeOf place) ⌝ }
-    ensures { λ r. ⌜ nextOf r ≡ Step.step level (placeOf place) code ⌝ }
+fn target_of(level: u32, place: Place, code: u8) -> Target
+    requires { ⌜ (level ≤ maxLevel) × Occurs level (placeOf place) ⌝ }
+    ensures { λ r. ⌜ targetOf r ≡ step level (placeOf place) code ⌝ }
 {
     let octant = place.octant;
     let kind = place.kind;
@@ -149,9 +118,9 @@ pub fn step_along(level: u32, cell: CellNumber, code: u8) -> StepAnswer
 {
     match cell::place_of(level, cell) {
         PlaceAnswer::Refused(number) => StepAnswer::Refused(number),
-        PlaceAnswer::At(place) => match next_of(level, place, code) {
-            Next::Nowhere => StepAnswer::Refused(refusal::STEP),
-            Next::At(next) => match cell::number_of(level, next) {
+        PlaceAnswer::At(place) => match target_of(level, place, code) {
+            Target::Nowhere => StepAnswer::Refused(refusal::STEP),
+            Target::At(target) => match cell::number_of(level, target) {
                 NumberAnswer::Number(number) => StepAnswer::To(number),
                 NumberAnswer::Refused(number) => StepAnswer::Refused(number),
             },
@@ -176,8 +145,8 @@ fn same_kind(a: Kind, b: Kind) -> bool
 }
 
 // Whether two places agree in each field.
-fn same(a: Place, b: Place) -> bool
-    ensures { λ r. ⌜ r ≡ same a b ⌝ }
+fn same_place(a: Place, b: Place) -> bool
+    ensures { λ r. ⌜ r ≡ samePlace a b ⌝ }
 {
     if a.octant != b.octant {
         return false;
@@ -195,19 +164,21 @@ fn same(a: Place, b: Place) -> bool
 
 // Whether the step along a code leads from one place to another.
 fn joins(level: u32, from: Place, to: Place, code: u8) -> bool
-    requires { ⌜ (level ≤ 14) × Occurs level (placeOf from) × Occurs level (placeOf to) ⌝ }
-    ensures { λ r. ⌜ r ≡ leads level (number level (placeOf to)) (Step.step level (placeOf from) code) ⌝ }
+    requires { ⌜ (level ≤ maxLevel) × Occurs level (placeOf from) × Occurs level (placeOf to) ⌝ }
+    ensures { λ r. ⌜ r ≡ leadsTo level (number level (placeOf to)) (step level (placeOf from) code) ⌝ }
 {
-    match next_of(level, from, code) {
-        Next::At(next) => same(next, to),
-        Next::Nowhere => false,
+    match target_of(level, from, code) {
+        Target::At(target) => same_place(target, to),
+        Target::Nowhere => false,
     }
 }
 
 // The code along which a step leads from one place to another.
 fn find_code(level: u32, from: Place, to: Place) -> CodeAnswer
-    requires { ⌜ (level ≤ 14) × Occurs level (placeOf from) × Occurs level (placeOf to) ⌝ }
-    ensures { λ r. ⌜ saidCode r ≡ found (λ (c : ℕ). c) (codeTo level (number level (placeOf to)) (placeOf from)) ⌝ }
+    requires { ⌜ (level ≤ maxLevel) × Occurs level (placeOf from) × Occurs level (placeOf to) ⌝ }
+    ensures { λ r.
+        let s = codeTo level (number level (placeOf to)) (placeOf from) in
+        ⌜ saidCode r ≡ inOrder (badStep s ∷ []) (foundOr 0 s) ⌝ }
 {
     let mut code = 0;
     while code < CODES {

@@ -4,16 +4,13 @@ use mathlib.Core.Path.{_≡_, refl, sym, ap}
 use mathlib.Core.Bool.{Bool, cond}
 use native.Mathlib.Nat.{le-trans, le-of-eq, le-add-right, add-zero, add-suc}
 use native.Mathlib.Omega.{arith}
-use Rattle.touch.specs.declared.Cube.{Cube}
-use Rattle.touch.specs.Cube.{side, least, most, taken, leads, accepted}
+use Rattle.touch.specs.declared.cube.Cube.{Cube}
+use Rattle.touch.specs.inside.Cube.{sideOf, least, most, taken, sumsFit, touchingWay}
 
 -- how many numbers below n pass a test
 unfoldable pub passes : (ℕ → Bool) → ℕ → ℕ
 passes P zero = 0
 passes P (suc w) = passes P w + cond (P w) 1 0
-
-abbrev pub cube : Bool → Bool → Bool → ℕ → ℕ → ℕ → Cube
-cube nx ny nz x y z = record { x = side nx x; y = side ny y; z = side nz z }
 
 -- the number of ways of an up cell, by its bases: an octant's corner cell has two bases 0, the cell of level 0 three
 unfoldable pub upWays : ℕ → ℕ → ℕ → ℕ
@@ -26,46 +23,58 @@ upWays (suc x) zero (suc z) = 12
 upWays (suc x) (suc y) zero = 12
 upWays (suc x) (suc y) (suc z) = 12
 
-pub up-ways : (nx ny nz : Bool) (x y z : ℕ) → passes (accepted 1 (cube nx ny nz x y z)) 27 ≡ upWays x y z
-unfolding passes accepted leads least most taken upWays
-up-ways nx ny nz zero zero zero = refl
-up-ways nx ny nz zero zero (suc z) = refl
-up-ways nx ny nz zero (suc y) zero = refl
-up-ways nx ny nz zero (suc y) (suc z) = refl
-up-ways nx ny nz (suc x) zero zero = refl
-up-ways nx ny nz (suc x) zero (suc z) = refl
-up-ways nx ny nz (suc x) (suc y) zero = refl
-up-ways nx ny nz (suc x) (suc y) (suc z) = refl
+-- what holds for each pattern of numbers that are 0 holds for any three
+pub zero-patterns :
+    (P : ℕ → ℕ → ℕ → Type 0)
+    → P 0 0 0
+    → ((z : ℕ) → P 0 0 (suc z))
+    → ((y : ℕ) → P 0 (suc y) 0)
+    → ((y z : ℕ) → P 0 (suc y) (suc z))
+    → ((x : ℕ) → P (suc x) 0 0)
+    → ((x z : ℕ) → P (suc x) 0 (suc z))
+    → ((x y : ℕ) → P (suc x) (suc y) 0)
+    → ((x y z : ℕ) → P (suc x) (suc y) (suc z))
+    → (x y z : ℕ) → P x y z
+zero-patterns P p0 pz py pyz px pxz pxy pxyz zero zero zero = p0
+zero-patterns P p0 pz py pyz px pxz pxy pxyz zero zero (suc z) = pz z
+zero-patterns P p0 pz py pyz px pxz pxy pxyz zero (suc y) zero = py y
+zero-patterns P p0 pz py pyz px pxz pxy pxyz zero (suc y) (suc z) = pyz y z
+zero-patterns P p0 pz py pyz px pxz pxy pxyz (suc x) zero zero = px x
+zero-patterns P p0 pz py pyz px pxz pxy pxyz (suc x) zero (suc z) = pxz x z
+zero-patterns P p0 pz py pyz px pxz pxy pxyz (suc x) (suc y) zero = pxy x y
+zero-patterns P p0 pz py pyz px pxz pxy pxyz (suc x) (suc y) (suc z) = pxyz x y z
+
+-- how many of the 27 ways lead to touching cells, for a cube with given signs and bases
+ways : ℕ → Bool → Bool → Bool → ℕ → ℕ → ℕ → ℕ
+ways room nx ny nz x y z = passes (touchingWay room (record { x = sideOf nx x; y = sideOf ny y; z = sideOf nz z })) 27
+
+pub up-ways : (c : Cube) → passes (touchingWay 1 c) 27 ≡ upWays (c .x .base) (c .y .base) (c .z .base)
+unfolding ways passes touchingWay sumsFit least most taken upWays
+up-ways c =
+    zero-patterns (λ x y z. ways 1 (c .x .negative) (c .y .negative) (c .z .negative) x y z ≡ upWays x y z)
+    refl (λ z. refl) (λ y. refl) (λ y z. refl) (λ x. refl) (λ x z. refl) (λ x y. refl) (λ x y z. refl)
+    (c .x .base) (c .y .base) (c .z .base)
 
 -- a down cell has 12 in any case
-pub down-ways : (nx ny nz : Bool) (x y z : ℕ) → passes (accepted 2 (cube nx ny nz x y z)) 27 ≡ 12
-unfolding passes accepted leads least most taken
-down-ways nx ny nz zero zero zero = refl
-down-ways nx ny nz zero zero (suc z) = refl
-down-ways nx ny nz zero (suc y) zero = refl
-down-ways nx ny nz zero (suc y) (suc z) = refl
-down-ways nx ny nz (suc x) zero zero = refl
-down-ways nx ny nz (suc x) zero (suc z) = refl
-down-ways nx ny nz (suc x) (suc y) zero = refl
-down-ways nx ny nz (suc x) (suc y) (suc z) = refl
+pub down-ways : (c : Cube) → passes (touchingWay 2 c) 27 ≡ 12
+unfolding ways passes touchingWay sumsFit least most taken
+down-ways c =
+    zero-patterns (λ x y z. ways 2 (c .x .negative) (c .y .negative) (c .z .negative) x y z ≡ 12)
+    refl (λ z. refl) (λ y. refl) (λ y z. refl) (λ x. refl) (λ x z. refl) (λ x y. refl) (λ x y z. refl)
+    (c .x .base) (c .y .base) (c .z .base)
 
 -- ---- all ways
 
-pub all-ways : (r : ℕ) (c : Cube) → 1 ≤ r → r ≤ 2 → passes (accepted r c) 27 ≤ 12
+up-most : (x y z : ℕ) → upWays x y z ≤ 12
 unfolding upWays
+up-most =
+    zero-patterns (λ x y z. upWays x y z ≤ 12)
+    (omega arith) (λ z. omega arith) (λ y. omega arith) (λ y z. omega arith) (λ x. omega arith) (λ x z. omega arith) (λ x y. omega arith) (λ x y z. omega arith)
+
+pub all-ways : (r : ℕ) (c : Cube) → 1 ≤ r → r ≤ 2 → passes (touchingWay r c) 27 ≤ 12
 all-ways zero c l h = absurd (omega arith)
-all-ways (suc zero) c l h = le-trans (le-of-eq (up-ways (c .x .negative) (c .y .negative) (c .z .negative) (c .x .base) (c .y .base) (c .z .base))) (up-most (c .x .base) (c .y .base) (c .z .base))
-  where
-    up-most : (x y z : ℕ) → upWays x y z ≤ 12
-    up-most zero zero zero = omega arith
-    up-most zero zero (suc z) = omega arith
-    up-most zero (suc y) zero = omega arith
-    up-most zero (suc y) (suc z) = omega arith
-    up-most (suc x) zero zero = omega arith
-    up-most (suc x) zero (suc z) = omega arith
-    up-most (suc x) (suc y) zero = omega arith
-    up-most (suc x) (suc y) (suc z) = omega arith
-all-ways (suc (suc zero)) c l h = le-of-eq (down-ways (c .x .negative) (c .y .negative) (c .z .negative) (c .x .base) (c .y .base) (c .z .base))
+all-ways (suc zero) c l h = le-trans (le-of-eq (up-ways c)) (up-most (c .x .base) (c .y .base) (c .z .base))
+all-ways (suc (suc zero)) c l h = le-of-eq (down-ways c)
 all-ways (suc (suc (suc r))) c l h = absurd (omega arith)
 
 -- fewer numbers pass below a lower bound

@@ -2,18 +2,17 @@
 use Prim.Native.Nat.{ℕ, _+_, _-_, _%_, _^_, _≤_, _<_}
 use mathlib.Core.Path.{_≡_, refl}
 use mathlib.Core.Bool.{Bool, true, false, cond}
-use mathlib.Core.List.{[], _∷_}
 use native.Mathlib.Omega.{arith}
 use borrow.Author.Tests.{le-leb, lt-leb, leb-true, leb-false, eq-eqb, ne-eqb, eqb-true, eqb-false}
 use lib.Dec.{leb, eqb}
-use lib.ListN.{getD}
 use Rattle.cell.specs.declared.Kind.{Kind}
 use Rattle.cell.specs.declared.Kind.the-variants.{Up, Down}
-use Rattle.cell.specs.Cell.{Frame, up, down, span, Place, Occurs, frameOf}
-use Rattle.cell.proofs.Laws.{digit-cases}
-use Rattle.touch.specs.declared.Side.{Side}
-use Rattle.touch.specs.declared.Cube.{Cube}
-use Rattle.touch.specs.Cube.{side, sum, row, col, rest, equatorialSides, cubeOf, quarter, column, placeIn, placeOfCube}
+use Rattle.cell.specs.Cell.{Frame, up, down, span, Place, Occurs, frameOf, row, col}
+use Rattle.corner.specs.Corner.{equatorial}
+use Rattle.corner.proofs.Octants.{octant-cases}
+use Rattle.touch.specs.declared.cube.Side.{Side}
+use Rattle.touch.specs.declared.cube.Cube.{Cube}
+use Rattle.touch.specs.inside.Cube.{sideOf, sum, leftOver, cubeOf, northernOctant, column, placeIn, placeOfCube, equatorialSides}
 
 -- N less the bases: 1 for up, 2 for down
 unfoldable pub room : Frame → ℕ
@@ -30,28 +29,25 @@ unfolding span row col room
 span-is (up a b) = refl
 span-is (down a b) = refl
 
--- the sides of a quarter
-unfoldable pub sides : ℕ → ℕ → ℕ → Side × Side
-sides i l r = getD ((side false l, side false r) ∷ (side true r, side false l) ∷ (side true l, side true r) ∷ (side false r, side true l) ∷ []) i (side false l, side false r)
+-- octant and column by the signs of the sides, and their bases together
+record BySigns (l r i : ℕ) (s : Side × Side) : Type 0 where
+  octants : northernOctant (s .0 .negative) (s .1 .negative) ≡ i
+  columns : column (s .0 .negative) (s .1 .negative) (s .0 .base) (s .1 .base) ≡ r
+  bases : s .0 .base + s .1 .base ≡ l + r
 
-record Quarter (i l r : ℕ) (s : Side × Side) : Type 0 where
-  back : quarter (s .0 .negative) (s .1 .negative) ≡ i
-  there : column (s .0 .negative) (s .1 .negative) (s .0 .base) (s .1 .base) ≡ r
-  all : s .0 .base + s .1 .base ≡ l + r
-
-of-quarter : (l r i : ℕ) → i < 4 → Quarter i l r (sides i l r)
-unfolding sides quarter column
-of-quarter l r = digit-cases _
-    (record { back = refl; there = refl; all = refl })
-    (record { back = refl; there = refl; all = omega arith })
-    (record { back = refl; there = refl; all = refl })
-    (record { back = refl; there = refl; all = omega arith })
+by-signs : (l r o : ℕ) → BySigns l r (o % 4) (equatorialSides o l r)
+unfolding northernOctant column
+by-signs l r = octant-cases (sideOf false) (sideOf true) l r (BySigns l r)
+    (record { octants = refl; columns = refl; bases = refl })
+    (record { octants = refl; columns = refl; bases = omega arith })
+    (record { octants = refl; columns = refl; bases = refl })
+    (record { octants = refl; columns = refl; bases = omega arith })
 
 -- ---- from a place to its cube
 
 pub sum-cube : (k : ℕ) (p : Place) → Occurs k p → sum (cubeOf k p) + room (p .1) ≡ 2 ^ k
-unfolding cubeOf equatorialSides sides rest
-sum-cube k p h = omega (arith, of-quarter (2 ^ k - span (p .1)) (col (p .1)) (p .0 % 4) (omega arith) .all, span-is (p .1), h .1)
+unfolding cubeOf leftOver
+sum-cube k p h = omega (arith, by-signs (2 ^ k - span (p .1)) (col (p .1)) (p .0) .bases, span-is (p .1), h .1)
 
 hemisphere : (o : ℕ) → o < 8 → o % 4 + cond (leb 4 o) 4 0 ≡ o
 hemisphere o h = go (leb 4 o) refl
@@ -67,15 +63,12 @@ frame-again (up a b) n M e = rw (eq-eqb (n + 1) M e)
 frame-again (down a b) n M e = rw (ne-eqb (n + 1) M (λ (d : n + 1 ≡ M). omega arith))
 
 pub place-cube : (k : ℕ) (p : Place) → Occurs k p → placeOfCube k (cubeOf k p) ≡ p
-unfolding placeIn cubeOf equatorialSides sides
+unfolding placeIn cubeOf
 place-cube k p h =
-    let w = of-quarter (rest k (p .1)) (col (p .1)) (p .0 % 4) (omega arith) in
-    let o : quarter (sides (p .0 % 4) (rest k (p .1)) (col (p .1)) .0 .negative) (sides (p .0 % 4) (rest k (p .1)) (col (p .1)) .1 .negative) + cond (leb 4 (p .0)) 4 0 ≡ p .0
-    = rw (w .back) (hemisphere (p .0) (h .0)) in
-    let f : cond (eqb (sum (cubeOf k p) + 1) (2 ^ k)) (up (row (p .1)) (col (p .1))) (down (row (p .1)) (col (p .1))) ≡ p .1
-    = frame-again (p .1) (sum (cubeOf k p)) (2 ^ k) (sum-cube k p h) in
-    let g : placeOfCube k (cubeOf k p) .1 ≡ p .1 = rw (w .there) f in
-    λ i. (o i, g i)
+    let w = by-signs (leftOver k (p .1)) (col (p .1)) (p .0) in
+    let o : placeOfCube k (cubeOf k p) .0 ≡ p .0 = rw (w .octants) (hemisphere (p .0) (h .0)) in
+    let f : placeOfCube k (cubeOf k p) .1 ≡ p .1 = rw (w .columns) (frame-again (p .1) (sum (cubeOf k p)) (2 ^ k) (sum-cube k p h)) in
+    λ i. (o i, f i)
 
 -- ---- from a cube to its place
 
@@ -83,33 +76,33 @@ place-cube k p h =
 abbrev pub Spanned : ℕ → Cube → Type 0
 Spanned k c = (sum c + 1 ≤ 2 ^ k) × (2 ^ k ≤ sum c + 2)
 
-record Told (k : ℕ) (c : Cube) (f : Frame) : Type 0 where
+record FrameTold (k : ℕ) (c : Cube) (f : Frame) : Type 0 where
   rows : row f ≡ c .z .base
   cols : col f ≡ column (c .x .negative) (c .y .negative) (c .x .base) (c .y .base)
   rooms : sum c + room f ≡ 2 ^ k
 
-told : (k : ℕ) (c : Cube) → Spanned k c → Told k c (placeOfCube k c .1)
+frame-told : (k : ℕ) (c : Cube) → Spanned k c → FrameTold k c (placeOfCube k c .1)
 unfolding placeIn row col room
-told k c h = go (eqb (sum c + 1) (2 ^ k)) refl
+frame-told k c h = go (eqb (sum c + 1) (2 ^ k)) refl
   where
     b : ℕ
     b = column (c .x .negative) (c .y .negative) (c .x .base) (c .y .base)
 
-    go : (t : Bool) → eqb (sum c + 1) (2 ^ k) ≡ t → Told k c (cond t (up (c .z .base) b) (down (c .z .base) b))
+    go : (t : Bool) → eqb (sum c + 1) (2 ^ k) ≡ t → FrameTold k c (cond t (up (c .z .base) b) (down (c .z .base) b))
     go true e = record { rows = refl; cols = refl; rooms = eqb-true (sum c + 1) (2 ^ k) e }
     go false e = let n : sum c + 1 ≡ 2 ^ k → ⊥ = eqb-false (sum c + 1) (2 ^ k) e in record { rows = refl; cols = refl; rooms = omega arith }
 
-record Sided (nx ny : Bool) (x y : ℕ) : Type 0 where
-  low : quarter nx ny < 4
+record SidesAgain (nx ny : Bool) (x y : ℕ) : Type 0 where
+  low : northernOctant nx ny < 4
   within : column nx ny x y ≤ x + y
-  again : sides (quarter nx ny) (x + y - column nx ny x y) (column nx ny x y) ≡ (side nx x, side ny y)
+  again : (o : ℕ) → o % 4 ≡ northernOctant nx ny → equatorialSides o (x + y - column nx ny x y) (column nx ny x y) ≡ (sideOf nx x, sideOf ny y)
 
-sided : (nx ny : Bool) (x y : ℕ) → Sided nx ny x y
-unfolding quarter column sides
-sided false false x y = let e : x + y - y ≡ x = omega arith in record { low = omega arith; within = omega arith; again = rw e }
-sided true false x y = let e : x + y - x ≡ y = omega arith in record { low = omega arith; within = omega arith; again = rw e }
-sided true true x y = let e : x + y - y ≡ x = omega arith in record { low = omega arith; within = omega arith; again = rw e }
-sided false true x y = let e : x + y - x ≡ y = omega arith in record { low = omega arith; within = omega arith; again = rw e }
+sides-again : (nx ny : Bool) (x y : ℕ) → SidesAgain nx ny x y
+unfolding northernOctant column equatorial
+sides-again false false x y = let e : x + y - y ≡ x = omega arith in record { low = omega arith; within = omega arith; again = λ o q. rw (q, e) }
+sides-again true false x y = let e : x + y - x ≡ y = omega arith in record { low = omega arith; within = omega arith; again = λ o q. rw (q, e) }
+sides-again true true x y = let e : x + y - y ≡ x = omega arith in record { low = omega arith; within = omega arith; again = λ o q. rw (q, e) }
+sides-again false true x y = let e : x + y - x ≡ y = omega arith in record { low = omega arith; within = omega arith; again = λ o q. rw (q, e) }
 
 hemisphere-again : (g : ℕ) → g < 4 → (n : Bool) → leb 4 (g + cond n 4 0) ≡ n
 hemisphere-again g h true = le-leb 4 (g + 4) (omega arith)
@@ -122,33 +115,30 @@ below-eight g h false = omega arith
 pub cube-occurs : (k : ℕ) (c : Cube) → Spanned k c → Occurs k (placeOfCube k c)
 unfolding placeIn
 cube-occurs k c h =
-    let s = sided (c .x .negative) (c .y .negative) (c .x .base) (c .y .base) in
-    let t = told k c h in
-    (below-eight (quarter (c .x .negative) (c .y .negative)) (s .low) (c .z .negative), omega (arith, span-is (placeOfCube k c .1), t .rows, t .cols, t .rooms, s .within))
+    let s = sides-again (c .x .negative) (c .y .negative) (c .x .base) (c .y .base) in
+    let t = frame-told k c h in
+    let g = northernOctant (c .x .negative) (c .y .negative) in
+    (below-eight g (s .low) (c .z .negative), omega (arith, span-is (placeOfCube k c .1), t .rows, t .cols, t .rooms, s .within))
 
-quarter-again : (g : ℕ) → g < 4 → (n : Bool) → (g + cond n 4 0) % 4 ≡ g
-quarter-again g h true = omega arith
-quarter-again g h false = omega arith
+octant-again : (g : ℕ) → g < 4 → (n : Bool) → (g + cond n 4 0) % 4 ≡ g
+octant-again g h true = omega arith
+octant-again g h false = omega arith
 
 pub cube-place : (k : ℕ) (c : Cube) → Spanned k c → cubeOf k (placeOfCube k c) ≡ c
-unfolding cubeOf equatorialSides sides rest placeIn
+unfolding cubeOf leftOver placeIn
 cube-place k c h =
     let nx = c .x .negative in
     let ny = c .y .negative in
-    let b = column nx ny (c .x .base) (c .y .base) in
-    let s = sided nx ny (c .x .base) (c .y .base) in
-    let t = told k c h in
-    let f = placeOfCube k c .1 in
-    let l : 2 ^ k - span f ≡ c .x .base + c .y .base - b = omega (arith, span-is f, t .rows, t .cols, t .rooms, s .within) in
-    let o : placeOfCube k c .0 % 4 ≡ quarter nx ny = quarters in
-    let e : sides (placeOfCube k c .0 % 4) (2 ^ k - span f) (col f) ≡ (c .x, c .y) = rw (o, l, t .cols) (s .again) in
-    λ i. record { x = e i .0; y = e i .1; z = side (hemispheres i) (t .rows i) }
-  where
-    quarters : placeOfCube k c .0 % 4 ≡ quarter (c .x .negative) (c .y .negative)
-    quarters = quarter-again (quarter (c .x .negative) (c .y .negative)) (sided (c .x .negative) (c .y .negative) (c .x .base) (c .y .base) .low) (c .z .negative)
-
-    hemispheres : leb 4 (placeOfCube k c .0) ≡ c .z .negative
-    hemispheres = hemisphere-again (quarter (c .x .negative) (c .y .negative)) (sided (c .x .negative) (c .y .negative) (c .x .base) (c .y .base) .low) (c .z .negative)
+    let x = c .x .base in
+    let y = c .y .base in
+    let s = sides-again nx ny x y in
+    let t = frame-told k c h in
+    let p = placeOfCube k c in
+    let l : 2 ^ k - span (p .1) ≡ x + y - column nx ny x y = omega (arith, span-is (p .1), t .rows, t .cols, t .rooms, s .within) in
+    let o : p .0 % 4 ≡ northernOctant nx ny = octant-again (northernOctant nx ny) (s .low) (c .z .negative) in
+    let n : leb 4 (p .0) ≡ c .z .negative = hemisphere-again (northernOctant nx ny) (s .low) (c .z .negative) in
+    let e : equatorialSides (p .0) (2 ^ k - span (p .1)) (col (p .1)) ≡ (c .x, c .y) = rw (l, t .cols) (s .again (p .0) o) in
+    λ i. record { x = e i .0; y = e i .1; z = sideOf (n i) (t .rows i) }
 
 -- ---- frames as the code holds them
 

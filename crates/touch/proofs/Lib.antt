@@ -1,13 +1,12 @@
-pub mod Signed
-pub mod Calls
 pub mod Sides
 pub mod Cubes
-pub mod Corners
+pub mod Vertices
 pub mod Ways
 pub mod Sorted
 pub mod Counts
 pub mod Collect
 pub mod Listed
-pub mod Points
+pub mod CellsAt
 pub mod Laws
-pub mod Walks
+pub mod Direct
+pub mod Indirect

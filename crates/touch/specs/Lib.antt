@@ -1,3 +1,2 @@
 pub mod Touch
-pub mod Steps
-pub mod Cube
+pub mod inside

@@ -1,13 +1,25 @@
--- Every starred cell and mask of document 01 is as the paper has it: the definitions compute to it. Assumes nothing.
+-- Every starred cell and mask of document 01 is as the paper has it, and the two fillings are as worked out: the definitions compute to it.
+-- Assumes nothing.
 use mathlib.Core.Path.{refl}
-use Rattle.cell.specs.Cell.{place, frame, child, children, number, digits, origin, origins, parities}
-use Rattle.position.specs.Position.{beginning, fromWest, quarter, offset, octant, T, R, holder, frameAt, placeAt, centreP, centreM, centre}
-use Rattle.step.specs.Step.{step, steps, across, east, west}
-use Rattle.bitset.specs.Bits.{bit, marked, bitsOf, bytesOf}
-use Rattle.touch.specs.Touch.{equatorial, polar, point, corner, frameCorners, same, samePoint, among, common, touches}
-use Rattle.mask.specs.Spread.{some, every, reach, grown, shrunk}
+use Rattle.cell.specs.Cell.{row, col, children, child, frame, span, place, parents, parities, asChild, digits, number}
+use Rattle.position.specs.Position.{beginning, fromWest, northOctant, offset, octant, scaledT, scaledR, holder, frameAt, placeAt}
+use Rattle.position.specs.Position.{thirds, centreP, centreM, centre}
+use Rattle.step.specs.Step.{across, east, west, steps, step, firstTrue, codeTo}
+use Rattle.step.specs.Neighbours.{direct, directCode, isDirect}
+use Rattle.bitset.specs.Bits.{bit, marked, bitsOf, bytesOf, outside}
+use Rattle.corner.specs.Corner.{equatorial, polar, pointIn, corner, frameCorners, sameNumber, samePoint, among, common, touches}
+use Rattle.mask.specs.Reach.{anyBelow, allBelow, reaches, grown, shrunk}
+use Rattle.fill.specs.Fill.{openStep, reachable}
 use Rattle.worked_cells.specs.WorkedCells.{All, workedCells}
 
 pub worked-cells : All workedCells
-unfolding workedCells place frame child children number digits origin origins parities beginning fromWest quarter offset octant T R holder frameAt placeAt centreP centreM centre step steps across east west bit marked bitsOf bytesOf some every reach grown shrunk equatorial polar point corner frameCorners same samePoint among common touches
-worked-cells = (refl, (refl, (refl, (refl, (refl, (refl, (refl, (refl, (refl, (refl, (refl, (refl, (refl, (refl, tt))))))))))))))
+unfolding
+    workedCells
+    row col children child frame span place parents parities asChild digits number
+    beginning fromWest northOctant offset octant scaledT scaledR holder frameAt placeAt thirds centreP centreM centre
+    across east west steps step firstTrue codeTo direct directCode isDirect
+    bit marked bitsOf bytesOf outside
+    equatorial polar pointIn corner frameCorners sameNumber samePoint among common touches
+    anyBelow allBelow reaches grown shrunk
+    openStep reachable
+worked-cells = (refl, (refl, (refl, (refl, (refl, (refl, (refl, (refl, (refl, (refl, (refl, (refl, (refl, (refl, (refl, (refl, tt))))))))))))))))

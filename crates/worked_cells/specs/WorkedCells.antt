@@ -1,4 +1,5 @@
--- The cells and masks that document 01 works out and marks with a star ("Cells worked out"), as one list of statements over the calls' own definitions.
+-- The cells and masks that document 01 works out and marks with a star ("Cells worked out"), and two fillings besides, as one list of statements over the
+-- calls' own definitions.
 use mathlib.Core.Path.{_≡_}
 use mathlib.Core.List.{List, [], _∷_}
 use lib.IntN.{pos, negℤ}
@@ -6,7 +7,8 @@ use Rattle.refusal.specs.Answer.{given}
 use Rattle.cell.specs.Cell.{up, down, placeCall}
 use Rattle.position.specs.Position.{cellCall, centreCall}
 use Rattle.step.specs.Step.{stepCall}
-use Rattle.mask.specs.Grow.{growCall, shrinkCall}
+use Rattle.grow.specs.Grow.{growCall, shrinkCall}
+use Rattle.fill.specs.Fill.{fillCall}
 
 -- each statement of a list holds
 abbrev pub All : List (Type 0) → Type 0
@@ -37,4 +39,7 @@ workedCells =
     ∷ (growCall 0 1 (1 ∷ []) (0 ∷ []) (0 ∷ []) ≡ (given tt, (191 ∷ [], 0 ∷ [])))
     ∷ (growCall 0 2 (1 ∷ []) (0 ∷ []) (0 ∷ []) ≡ (given tt, (255 ∷ [], 0 ∷ [])))
     ∷ (shrinkCall 0 1 (191 ∷ []) (0 ∷ []) (0 ∷ []) ≡ (given tt, (1 ∷ [], 0 ∷ [])))
+    -- level 0, filled from cell 0: a border of cell 1 (byte 2) encloses nothing; one of cells 1, 3 and 4 (byte 26) leaves only cell 0 outside
+    ∷ (fillCall 0 (2 ∷ []) 0 (0 ∷ []) ≡ (given tt, 2 ∷ []))
+    ∷ (fillCall 0 (26 ∷ []) 0 (0 ∷ []) ≡ (given tt, 254 ∷ []))
     ∷ []

@@ -2,6 +2,7 @@
 mod address;
 mod cells;
 mod digits;
+mod fills;
 mod masks;
 mod positions;
 mod print;
@@ -15,4 +16,5 @@ fn main() {
     digits::show();
     touching::show();
     masks::show();
+    fills::show();
 }

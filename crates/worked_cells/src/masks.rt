@@ -1,7 +1,7 @@
 // Masks of level 0, one byte each: grown, shrunk, joined, counted and held against each other.
 use crate::print;
+use grow::RingsAnswer;
 use mask::CountAnswer;
-use mask::GrowAnswer;
 use mask::JoinAnswer;
 use mask::WithinAnswer;
 
@@ -41,7 +41,7 @@ fn show_withins() {
 }
 
 // A word, and the bytes of a mask after it.
-fn print_mask(label: &[u8], bytes: &[u8]) {
+pub fn print_mask(label: &[u8], bytes: &[u8]) {
     print::text(label);
     for i in 0..bytes.len() {
         print_byte(bytes[i]);
@@ -52,22 +52,22 @@ fn print_byte(byte: u8) {
     print::labelled(b" ", byte as u32);
 }
 
-fn print_level(level: u32) {
+pub fn print_level(level: u32) {
     print::labelled(b"level ", level);
     print::text(b" ");
 }
 
-fn print_refused(n: u8) {
+pub fn print_refused(n: u8) {
     print::text(b": ");
     print::refused(n);
 }
 
 // What a mask became by so many rings.
-fn print_spread(answer: GrowAnswer, rings: u32, out: &[u8]) {
+fn print_spread(answer: RingsAnswer, rings: u32, out: &[u8]) {
     print::number(rings);
     match answer {
-        GrowAnswer::Done => print_mask(b":", out),
-        GrowAnswer::Refused(n) => print_refused(n),
+        RingsAnswer::Done => print_mask(b":", out),
+        RingsAnswer::Refused(n) => print_refused(n),
     }
     print::text(b"\n");
 }
@@ -78,7 +78,7 @@ fn show_grown(level: u32, rings: u32, bytes: &[u8]) {
     print_level(level);
     print_mask(b"mask", bytes);
     print::text(b" grown by ");
-    let answer = mask::grow(level, rings, bytes, &mut out, &mut work);
+    let answer = grow::grow(level, rings, bytes, &mut out, &mut work);
     print_spread(answer, rings, &out);
 }
 
@@ -88,7 +88,7 @@ fn show_shrunk(level: u32, rings: u32, bytes: &[u8]) {
     print_level(level);
     print_mask(b"mask", bytes);
     print::text(b" shrunk by ");
-    let answer = mask::shrink(level, rings, bytes, &mut out, &mut work);
+    let answer = grow::shrink(level, rings, bytes, &mut out, &mut work);
     print_spread(answer, rings, &out);
 }
 

@@ -4,16 +4,18 @@ use crate::print;
 use step::CodeAnswer;
 use step::StepAnswer;
 
+// Source 000, table 1 (b): the closed border, as addresses of level 8, nine digits each, with a space between.
+pub const BORDER: [u8; 329] =
+    *b"210310103 210310131 210313210 210313213 210313002 210313012 210313010 210313011 210313322 210303322 210303320 \
+    210303321 210303302 210303312 210303003 210303013 210303010 210303011 210303233 210303230 210303231 210303203 \
+    210303202 210303221 210303220 210303223 210303232 210313232 210313201 210313200 210313202 210313212 210310103";
+
 pub fn show() {
     show_out_of_octant();
     show_inside();
     show_refused();
     print::text(b"source 000 table 1 (b):");
-    show_border(
-        b"210310103 210310131 210313210 210313213 210313002 210313012 210313010 210313011 210313322 210303322 210303320 \
-        210303321 210303302 210303312 210303003 210303013 210303010 210303011 210303233 210303230 210303231 210303203 \
-        210303202 210303221 210303220 210303223 210303232 210313232 210313201 210313200 210313202 210313212 210310103",
-    );
+    show_border(&BORDER);
     print::text(b"\n");
 }
 
@@ -100,7 +102,7 @@ fn show_code(level: u32, from: u32, to: u32) {
     print::text(b"\n");
 }
 
-// The codes along a border: addresses of level 8, nine digits each, with a space between.
+// The codes from each address of a border to the next.
 fn show_border(border: &[u8]) {
     let mut i: usize = 0;
     while i + 19 <= border.len() {

@@ -1,8 +1,8 @@
 // Touching cells: how many cells of each level touch how many, lists of them, and pairs.
 use crate::address;
 use crate::print;
+use corner::TouchAnswer;
 use touch::ListAnswer;
-use touch::TouchAnswer;
 
 pub fn show() {
     show_tally(0);
@@ -157,9 +157,9 @@ fn show_pair(level: u32, one: u32, other: u32) {
     print::labelled(b" cell ", one);
     print::labelled(b" and cell ", other);
     print::text(b": ");
-    match touch::cells_touch(level, one, other) {
+    match corner::cells_touch(level, one, other) {
         TouchAnswer::Touch => print::text(b"touch"),
-        TouchAnswer::Apart => print::text(b"apart"),
+        TouchAnswer::NotTouching => print::text(b"apart"),
         TouchAnswer::Refused(n) => print::refused(n),
     }
     print::text(b"\n");

@@ -1,4 +1,5 @@
--- `ascend` meets its contract. The invariant: with `done` digits taken off, they are the number `digits` below 4^done, and the place's digits are those of what is left, above them.
+-- `ascend` meets its contract. The invariant: with `done` digits taken off, they are the number `digits` below 4^done, and the place's digits
+-- are those of what is left, above them.
 -- The measure is the number of digits left. Assumes nothing.
 use Prim.Native.Nat.{_≤_, _<_, _-_, _+_, _*_, _^_}
 use mathlib.Core.Path.{_≡_, refl, ap}
@@ -7,13 +8,17 @@ use native.Mathlib.Omega.{arith}
 use native.Mathlib.Nat.{pow-le-pow-right, pow-suc, sub-zero}
 use lib.Arith.{digits-lt}
 use Rattle.cell.specs.Cell as Cell
-use Rattle.cell.specs.Cell.{placeOf, number}
-use Rattle.cell.proofs.Laws.{digits-more, digit-weight}
+use Rattle.cell.specs.Cell.{placeOf, number, maxLevel}
+use Rattle.cell.proofs.Laws.{digits-more, digit-small, digit-weight}
 use Rattle.cell.proofs.ascend.Statement.{statement}
 use Rattle.cell.proofs.ascend.Tie as tie
 
 abbrev Inv-loop : tie.InvT-loop
-Inv-loop level octant low₀ digits₀ weight₀ done₀ low digits weight done = (done ≤ level) × (weight ≡ 4 ^ done) × (digits < weight) × (Cell.digits (level - done) (placeOf low .1) * weight + digits ≡ Cell.digits level (placeOf low₀ .1))
+Inv-loop level octant low₀ digits₀ weight₀ done₀ low digits weight done =
+    (done ≤ level)
+    × (weight ≡ 4 ^ done)
+    × (digits < weight)
+    × (Cell.digits (level - done) (placeOf low .1) * weight + digits ≡ Cell.digits level (placeOf low₀ .1))
 
 abbrev μ-loop : tie.MeasureT-loop
 μ-loop level octant low₀ digits₀ weight₀ done₀ low digits weight done = level - done
@@ -21,15 +26,19 @@ abbrev μ-loop : tie.MeasureT-loop
 loop-holds : tie.Need-loop-holds Inv-loop μ-loop
 loop-holds c = (omega arith, refl, omega arith, rw sub-zero (omega arith))
 
-origin-of-requires : tie.Need-origin-of-requires Inv-loop μ-loop
-origin-of-requires c κs = tt
+as-child-requires : tie.Need-as-child-requires Inv-loop μ-loop
+as-child-requires c κs = tt
 
--- a weight still to come is at most 4^13, and the sum with its digit stays below the next weight
-room : (c : tie.After-struct-known Inv-loop μ-loop) → (c .before .before .before .loop .digits + c .before .origin-of .result .1 * c .before .before .before .loop .weight < 4 * c .before .before .before .loop .weight) × (c .before .before .before .loop .weight ≤ 4 ^ 13)
+-- a digit is below 4, the sum with it at its weight stays below the next weight, and a weight still to come is at most 4^13
+room : (c : tie.After-as-child Inv-loop μ-loop) →
+    let l = c .before .before .loop in
+    let d = c .as-child .result .1 in
+    (d < 4) × (l .digits + d * l .weight < 4 * l .weight) × (l .weight ≤ 4 ^ 13)
 room c =
-    let l = c .before .before .before .loop in
+    let l = c .before .before .loop in
     let f = placeOf (l .low) .1 in (
-      rw (c .before .origin-of .ensures .1) (digit-weight f (l .weight) (l .digits) (l .inv .2)),
+      rw (c .as-child .ensures .1) (digit-small f),
+      rw (c .as-child .ensures .1) (digit-weight f (l .weight) (l .digits) (l .inv .2)),
       rw (l .inv .1) (pow-le-pow-right {n = 4} (omega arith) {i = l .done} {j = 13} (omega arith)),
     )
 
@@ -50,22 +59,25 @@ loop-less c = omega arith
 
 loop-again : tie.Need-loop-again Inv-loop μ-loop
 loop-again c =
-    let l = c .before .before .before .before .loop in
-    let p = ap (λ (q : Cell.Place). q .1) (c .before .before .origin-of .ensures .0) in
-    let d = c .before .before .origin-of .ensures .1 in
+    let s = c .before in
+    let l = s .before .before .loop in
+    let k = s .before .before .before .args .level in
+    let p = ap (λ (q : Cell.Place). q .1) (s .as-child .ensures .0) in
     let f = placeOf (l .low) .1 in (
       omega arith,
       rw add-one (omega (arith, pow-suc 4 (l .done))),
-      room (c .before) .0,
-      rw (add-one, p, d, digits-more (c .before .before .before .before .before .args .level) (l .done) f (l .weight) (l .digits) (omega arith)) (l .inv .3),
+      omega (arith, room s),
+      rw (add-one, p, s .as-child .ensures .1, digits-more k (l .done) f (l .weight) (l .digits) (omega arith)) (l .inv .3),
     )
 
--- after the loop the octant above the digits stays below 8 × 4^14
-whole : (c : tie.After-loop Inv-loop μ-loop) → (c .before .before .args .place .octant * c .before .loop .weight + c .before .loop .digits < 8 * c .before .loop .weight) × (c .before .loop .weight ≤ 4 ^ 14)
+-- after the loop the octant above the digits stays below 8 × 4^maxLevel
+whole : (c : tie.After-loop Inv-loop μ-loop) →
+    let l = c .before .loop in
+    (c .before .before .args .place .octant * l .weight + l .digits < 8 * l .weight) × (l .weight ≤ 4 ^ maxLevel)
 whole c =
     let l = c .before .loop in (
       digits-lt (c .before .before .pre .1 .0) (l .inv .2),
-      rw (l .inv .1) (pow-le-pow-right {n = 4} (omega arith) {i = l .done} {j = 14} (omega arith)),
+      rw (l .inv .1) (pow-le-pow-right {n = 4} (omega arith) {i = l .done} {j = maxLevel} (omega arith)),
     )
 
 mul-result : tie.Need-mul-result Inv-loop μ-loop
@@ -78,9 +90,10 @@ returns : tie.Need-returns Inv-loop μ-loop
 unfolding number Cell.digits
 returns c =
     let l = c .before .loop in
-    let e : l .done ≡ c .before .before .args .level = omega arith in
-    let z : c .before .before .args .level - l .done ≡ 0 = omega arith in
-    let d : l .digits ≡ Cell.digits (c .before .before .args .level) (placeOf (c .before .before .args .place) .1) = omega (arith, rw z at (l .inv .3)) in
+    let a = c .before .before .args in
+    let e : l .done ≡ a .level = omega arith in
+    let z : a .level - l .done ≡ 0 = omega arith in
+    let d : l .digits ≡ Cell.digits (a .level) (placeOf (a .place) .1) = omega (arith, rw z at (l .inv .3)) in
     rw (d, l .inv .1, e)
 
 pub ascend-spec : {M : Type 1} → statement M
@@ -90,7 +103,7 @@ ascend-spec =
     Inv-loop
     μ-loop
     loop-holds
-    origin-of-requires
+    as-child-requires
     mul-digits
     add-digits
     mul-weight

@@ -6,13 +6,14 @@ use native.Mathlib.Omega.{arith}
 use native.Mathlib.Nat.{le-trans, sub-zero, pow-zero, div-one}
 use lib.Pow.{pow-mono}
 use borrow.Author.Needs.{needs}
-use Rattle.cell.specs.Cell.{Place, placeOf, place, frame, span}
+use Rattle.cell.specs.Cell.{Place, placeOf, place, frame, span, maxLevel}
 use Rattle.cell.proofs.Laws.{shift-four, frame-bounds, frame-more, frame-span}
 use Rattle.cell.proofs.descend.Statement.{statement}
 use Rattle.cell.proofs.descend.Tie as tie
 
 abbrev Inv-loop : tie.InvT-loop
-Inv-loop level cell place₀ left₀ place left = (left ≤ level) × (placeOf place ≡ (cell / 4 ^ level, frame (level - left) (cell / 4 ^ left)))
+Inv-loop level cell place₀ left₀ place left =
+    (left ≤ level) × (placeOf place ≡ (cell / 4 ^ level, frame (level - left) (cell / 4 ^ left)))
 
 abbrev μ-loop : tie.MeasureT-loop
 μ-loop level cell place₀ left₀ place left = left
@@ -46,9 +47,10 @@ child-of-requires : tie.Need-child-of-requires Inv-loop μ-loop
 child-of-requires c κs =
     let l = c .before .loop in
     let a = c .before .before .before .args in
-    let m : 2 ^ (a .level - l .left) ≤ 2 ^ 14 = pow-mono {i = a .level - l .left} {j = 14} (omega arith) in
-    let s : span (placeOf (l .place) .1) ≤ 2 ^ 14 = rw (ap (λ (q : Place). q .1) (l .inv .1)) (le-trans (frame-span (a .level - l .left) (a .cell / 4 ^ l .left)) m) in
-    let b = frame-bounds (l .place .kind) (l .place .row) (l .place .col) (2 ^ 14) s in
+    let m : 2 ^ (a .level - l .left) ≤ 2 ^ maxLevel = pow-mono {i = a .level - l .left} {j = maxLevel} (omega arith) in
+    let f = frame-span (a .level - l .left) (a .cell / 4 ^ l .left) in
+    let s : span (placeOf (l .place) .1) ≤ 2 ^ maxLevel = rw (ap (λ (q : Place). q .1) (l .inv .1)) (le-trans f m) in
+    let b = frame-bounds (l .place .kind) (l .place .row) (l .place .col) (2 ^ maxLevel) s in
     omega arith
 
 loop-less : tie.Need-loop-less Inv-loop μ-loop

@@ -1,36 +1,47 @@
--- `count` meets its contract: each test refuses by its number, and a mask of its exact length is summed. Assumes nothing.
-use Prim.Native.Nat.{_^_}
-use mathlib.Core.Path.{_≡_}
-use native.Mathlib.Omega.{arith}
-use borrow.Author.Tests.{lt-ltb, le-ltb, eq-eqb, ne-eqb}
-use lib.ListN.{length}
-use Rattle.mask.proofs.Laws.{mask-small}
+-- `count` meets its contract: refused where the slice is no mask of the level, and otherwise the ones of its bytes are summed. Assumes nothing.
+use mathlib.Core.List.{[]}
+use mathlib.Core.Path.{_≡_, sym, ap, _∙_}
 use borrow.Author.Needs.{needs}
+use Rattle.refusal.specs.Answer.{given, done}
+use Rattle.refusal.proofs.Answers.{same-refusal, tests-left}
+use Rattle.mask.specs.Mask.{maskTests, maskCall, saidMask}
+use Rattle.mask.proofs.Answers.{IsMask, is-mask}
 use Rattle.mask.proofs.count.Statement.{statement}
 use Rattle.mask.proofs.count.Tie as tie
 
-returns : tie.Need-returns
-returns c = simp (lt-ltb _ _ (c .if1 .taken))
+is-mask-requires : tie.Need-is-mask-requires
+is-mask-requires c κs = search needs
 
-mask-bytes-requires : tie.Need-mask-bytes-requires
-mask-bytes-requires c κs = search needs
+enum-known-n : tie.Need-enum-known-n
+enum-known-n c = search needs
+
+enum-told : tie.Need-enum-told
+enum-told c = search needs
+
+abbrev entry : tie.After-enum-told → tie.Start
+entry c = c .before .before .before .before
+
+-- the slice is a mask of the level
+told : (c : tie.After-enum-told) → given done ≡ maskCall (entry c .args .level) (entry c .args .mask .now)
+told c = sym (ap saidMask (c .enum-told .given .1)) ∙ c .before .before .is-mask .ensures
+
+is : (c : tie.After-enum-told) → IsMask (entry c .args .level) (entry c .args .mask .now)
+is c = is-mask _ _ (told c)
+
+sum-ones-requires : tie.Need-sum-ones-requires
+sum-ones-requires c κs = is c .short
+
+returns : tie.Need-returns
+returns c =
+    let a = c .before .before .before .before .before .args in
+    same-refusal (maskTests (a .level) (a .mask .now)) [] done _ _ (sym (ap saidMask (c .before .n .given .1)) ∙ c .before .before .before .is-mask .ensures)
 
 returns-2 : tie.Need-returns-2
 returns-2 c =
-    let a = c .before .before .before .before .args in
-    let other : length (a .mask .now) ≡ 4 ^ (a .level) → ⊥ = λ q. omega (arith, c .before .mask-bytes .ensures) in
-    simp (le-ltb _ _ (c .before .before .if1 .left), ne-eqb _ _ other)
-
-sum-ones-requires : tie.Need-sum-ones-requires
-sum-ones-requires c κs =
-    let a = c .before .before .before .before .args in
-    omega (arith, c .before .mask-bytes .ensures, mask-small (a .level) (omega arith))
-
-returns-3 : tie.Need-returns-3
-returns-3 c =
-    let a = c .before .before .before .before .before .args in
-    let exact : length (a .mask .now) ≡ 4 ^ (a .level) = omega (arith, c .before .before .mask-bytes .ensures) in
-    simp (le-ltb _ _ (c .before .before .before .if1 .left), eq-eqb _ _ exact, rw exact at (c .sum-ones .ensures))
+    let a = entry (c .before) .args in
+    ap given (rw (is (c .before) .long) at (c .sum-ones .ensures)) ∙ tests-left (maskTests (a .level) (a .mask .now)) [] done done _ (told (c .before))
 
 pub count-spec : {M : Type 1} → statement M
-count-spec = tie.close (tie.spec returns mask-bytes-requires returns-2 sum-ones-requires returns-3)
+count-spec =
+    tie.close
+    (tie.spec is-mask-requires enum-known-n enum-told sum-ones-requires returns returns-2)

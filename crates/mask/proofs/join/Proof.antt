@@ -1,70 +1,58 @@
--- `join` meets its contract: each test refuses by its number before anything is written. Assumes nothing.
-use Prim.Native.Nat.{ℕ, _^_}
-use mathlib.Core.Path.{_≡_, ap}
-use mathlib.Core.List.{List}
-use native.Mathlib.Omega.{arith}
-use borrow.Author.Tests.{lt-ltb, le-ltb, eq-eqb, ne-eqb}
+-- `join` meets its contract: a call that its tests refuse leaves the slice, and any other writes the bits of either mask. Assumes nothing.
+use mathlib.Core.Path.{_≡_, sym, ap, _∙_}
 use borrow.Author.Needs.{needs}
-use lib.ListN.{length}
-use Rattle.refusal.specs.Answer.{Answer, given}
+use Rattle.refusal.specs.Answer.{given, inOrder, done}
+use Rattle.mask.specs.Mask.{joinTests, saidJoin}
+use Rattle.mask.proofs.Answers.{joinable, join-refused, join-given}
 use Rattle.mask.proofs.join.Statement.{statement}
 use Rattle.mask.proofs.join.Tie as tie
 
 returns : tie.Need-returns
-returns c = simp (lt-ltb _ _ (c .if1 .taken))
+returns c = search join-refused
 
-mask-bytes-requires : tie.Need-mask-bytes-requires
-mask-bytes-requires c κs = search needs
+join-tests-requires : tie.Need-join-tests-requires
+join-tests-requires c κs = search needs
 
-returns-2 : tie.Need-returns-2
-returns-2 c =
-    let a = c .before .before .before .before .before .before .args in
-    let other : length (a .a .now) ≡ 4 ^ (a .level) → ⊥ = λ q. omega (arith, c .before .mask-bytes .ensures) in
-    simp (le-ltb _ _ (c .before .before .if1 .left), ne-eqb _ _ other)
+enum-known-n : tie.Need-enum-known-n
+enum-known-n c = search needs
 
-returns-3 : tie.Need-returns-3
-returns-3 c =
-    let a = c .before .before .before .before .before .before .before .args in
-    let n = c .before .before .mask-bytes .ensures in
-    let first : length (a .a .now) ≡ 4 ^ (a .level) = omega (arith, n) in
-    let other : length (a .b .now) ≡ 4 ^ (a .level) → ⊥ = λ q. omega (arith, n) in
-    simp (le-ltb _ _ (c .before .before .before .if1 .left), eq-eqb _ _ first, ne-eqb _ _ other)
+enum-told : tie.Need-enum-told
+enum-told c = search needs
 
-returns-4 : tie.Need-returns-4
-returns-4 c =
-    let a = c .before .before .before .before .before .before .before .before .args in
-    let n = c .before .before .before .mask-bytes .ensures in
-    let first : length (a .a .now) ≡ 4 ^ (a .level) = omega (arith, n) in
-    let second : length (a .b .now) ≡ 4 ^ (a .level) = omega (arith, n) in
-    let other : length (a .out .now) ≡ 4 ^ (a .level) → ⊥ = λ q. omega (arith, n) in
-    simp (le-ltb _ _ (c .before .before .before .before .if1 .left), eq-eqb _ _ first, eq-eqb _ _ second, ne-eqb _ _ other)
+abbrev entry : tie.After-enum-told → tie.Start
+entry c = c .before .before .before .before .before .before .before
+
+-- no test refused
+told : (c : tie.After-enum-told) → let a = entry c .args in given done ≡ inOrder (joinTests (a .level) (a .a .now) (a .b .now) (a .out .now)) done
+told c = sym (ap saidJoin (c .enum-told .given .1)) ∙ c .before .before .join-tests .ensures
 
 join-bytes-requires : tie.Need-join-bytes-requires
-join-bytes-requires c κs = search needs
+join-bytes-requires c κs =
+    let a = entry (c .before) .args in
+    let j = joinable (a .level) (a .a .now) (a .b .now) (a .out .now) (told (c .before)) in
+    (j .first ∙ sym (j .written), j .second ∙ sym (j .written))
 
 same-length : tie.Need-same-length
 same-length c = search needs
 
-returns-5 : tie.Need-returns-5
-returns-5 c =
-    let d = c .before .before .before .before in
-    let a = d .before .before .before .before .before .before .before .before .args in
-    let n = d .before .before .before .mask-bytes .ensures in
-    let first : length (a .a .now) ≡ 4 ^ (a .level) = omega (arith, n) in
-    let second : length (a .b .now) ≡ 4 ^ (a .level) = omega (arith, n) in
-    let third : length (a .out .now) ≡ 4 ^ (a .level) = omega (arith, n) in
-    simp (le-ltb _ _ (d .before .before .before .before .if1 .left), eq-eqb _ _ first, eq-eqb _ _ second, eq-eqb _ _ third)
-    (ap {B = Answer (Unit {0}) × List ℕ} (λ (l : List ℕ). (given tt, l)) (rw third at (c .before .before .join-bytes .ensures)))
+same-length-2 : tie.Need-same-length-2
+same-length-2 c = search needs
+
+returns-2 : tie.Need-returns-2
+returns-2 c =
+    let e = c .before .before .before .before in
+    let a = entry e .args in
+    join-given (a .level) (a .a .now) (a .b .now) (a .out .now) _ (told e) (c .before .before .join-bytes .ensures)
 
 pub join-spec : {M : Type 1} → statement M
 join-spec =
     tie.close
     (tie.spec
-    returns
-    mask-bytes-requires
-    returns-2
-    returns-3
-    returns-4
+    join-tests-requires
+    enum-known-n
+    enum-told
     join-bytes-requires
     same-length
-    returns-5)
+    returns
+    same-length-2
+    returns-2)

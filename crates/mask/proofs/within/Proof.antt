@@ -1,78 +1,94 @@
--- `within` meets its contract: each test refuses by its number, and the first lacking cell of two masks of their exact length is the lowest of the difference. Assumes nothing.
+-- `within` meets its contract: refused as the tests of the first mask and the second's length say, and the first lacking cell of two masks is the
+-- lowest of their difference. Assumes nothing.
 use Prim.Native.Nat.{_*_, _^_}
-use mathlib.Core.Path.{_≡_}
+use mathlib.Core.List.{[], _∷_}
+use mathlib.Core.Path.{_≡_, sym, ap, _∙_}
 use native.Mathlib.Omega.{arith}
-use borrow.Author.Tests.{lt-ltb, le-ltb, eq-eqb, ne-eqb}
-use lib.ListN.{length}
-use Rattle.bitset.specs.Bits.{marked}
-use Rattle.mask.specs.Mask.{difference}
-use Rattle.mask.proofs.Laws.{mask-small, lowest-none, lowest-at}
+use borrow.Author.Tests.{eq-eqb, ne-eqb}
 use borrow.Author.Needs.{needs}
+use lib.ListN.{length}
+use Rattle.refusal.specs.Answer.{done}
+use Rattle.refusal.specs.Tests.{badLength}
+use Rattle.refusal.proofs.Answers.{same-refusal}
+use Rattle.bitset.specs.Bits.{marked}
+use Rattle.mask.specs.Mask.{maskTests, difference, saidMask}
+use Rattle.mask.proofs.Laws.{lowest-none, lowest-at}
+use Rattle.mask.proofs.Answers.{IsMask, is-mask}
 use Rattle.mask.proofs.within.Statement.{statement}
 use Rattle.mask.proofs.within.Tie as tie
 
-returns : tie.Need-returns
-returns c = simp (lt-ltb _ _ (c .if1 .taken))
+is-mask-requires : tie.Need-is-mask-requires
+is-mask-requires c κs = search needs
 
-mask-bytes-requires : tie.Need-mask-bytes-requires
-mask-bytes-requires c κs = search needs
+enum-known-n : tie.Need-enum-known-n
+enum-known-n c = search needs
+
+enum-told : tie.Need-enum-told
+enum-told c = search needs
+
+abbrev entry : tie.After-enum-told → tie.Start
+entry c = c .before .before .before .before .before
+
+-- the first slice is a mask of the level
+first : (c : tie.After-enum-told) → IsMask (entry c .args .level) (entry c .args .a .now)
+first c = is-mask (entry c .args .level) (entry c .args .a .now) (sym (ap saidMask (c .enum-told .given .1)) ∙ c .before .before .is-mask .ensures)
+
+returns : tie.Need-returns
+returns c =
+    let a = entry (c .before) .args in
+    let m = first (c .before) in
+    let n : length (a .b .now) ≡ 4 ^ a .level → ⊥ = λ e. omega (arith, m .long) in
+    simp (m .passes .0, m .passes .1 .0, ne-eqb _ _ n)
+
+-- the second is of its length too
+second : (c : tie.Else1) → length (entry (c .before) .args .b .now) ≡ 4 ^ entry (c .before) .args .level
+second c = omega (arith, first (c .before) .long)
+
+first-lacking-requires : tie.Need-first-lacking-requires
+first-lacking-requires c κs = omega (arith, first (c .before) .long, first (c .before) .short, second c)
+
+cast-if2 : tie.Need-cast-if2
+cast-if2 c = search needs
+
+mul-if2 : tie.Need-mul-if2
+mul-if2 c = omega (arith, first (c .before .before) .short)
 
 returns-2 : tie.Need-returns-2
 returns-2 c =
-    let a = c .before .before .before .before .before .args in
-    let other : length (a .a .now) ≡ 4 ^ (a .level) → ⊥ = λ q. omega (arith, c .before .mask-bytes .ensures) in
-    simp (le-ltb _ _ (c .before .before .if1 .left), ne-eqb _ _ other)
+    let a = c .before .before .before .before .before .before .args in
+    let us = badLength (4 ^ a .level) (a .b .now) ∷ [] in
+    same-refusal (maskTests (a .level) (a .a .now)) us done _ _ (sym (ap saidMask (c .before .n .given .1)) ∙ c .before .before .before .is-mask .ensures)
 
 returns-3 : tie.Need-returns-3
 returns-3 c =
-    let a = c .before .before .before .before .before .before .args in
-    let n = c .before .before .mask-bytes .ensures in
-    let first : length (a .a .now) ≡ 4 ^ (a .level) = omega (arith, n) in
-    let other : length (a .b .now) ≡ 4 ^ (a .level) → ⊥ = λ q. omega (arith, n) in
-    simp (le-ltb _ _ (c .before .before .before .if1 .left), eq-eqb _ _ first, ne-eqb _ _ other)
-
-first-lacking-requires : tie.Need-first-lacking-requires
-first-lacking-requires c κs =
-    let a = c .before .before .before .before .before .before .args in
-    omega (arith, c .before .before .mask-bytes .ensures, mask-small (a .level) (omega arith))
-
-cast-if4 : tie.Need-cast-if4
-cast-if4 c = search needs
-
-mul-if4 : tie.Need-mul-if4
-mul-if4 c =
-    let a = c .before .before .before .before .before .before .before .args in
-    omega (arith, c .before .before .before .mask-bytes .ensures, mask-small (a .level) (omega arith))
+    let d = c .before .before .before in
+    let a = entry d .args in
+    let m = first d in
+    let f = c .before .first-lacking in
+    let P = difference (marked (a .a .now)) (marked (a .b .now)) in
+    let v = lowest-at P (8 * 4 ^ a .level) 0 (f .result) (omega arith) (omega (arith, m .long)) (f .ensures .0) (f .ensures .1 (omega arith)) in
+    simp (m .passes .0, m .passes .1 .0, eq-eqb _ _ (second (c .before .before)), v)
 
 returns-4 : tie.Need-returns-4
 returns-4 c =
-    let a = c .before .before .before .before .before .before .before .before .args in
-    let n = c .before .before .before .before .mask-bytes .ensures in
-    let first : length (a .a .now) ≡ 4 ^ (a .level) = omega (arith, n) in
-    let second : length (a .b .now) ≡ 4 ^ (a .level) = omega (arith, n) in
-    let f = c .before .first-lacking in
-    let v = lowest-at (difference (marked (a .a .now)) (marked (a .b .now))) (8 * 4 ^ (a .level)) 0 (f .result) (omega arith) (omega (arith, n)) (f .ensures .0) (f .ensures .1 (omega arith)) in
-    simp (le-ltb _ _ (c .before .before .before .before .before .if1 .left), eq-eqb _ _ first, eq-eqb _ _ second, v)
-
-returns-5 : tie.Need-returns-5
-returns-5 c =
-    let a = c .before .before .before .before .before .before .before .before .args in
-    let n = c .before .before .before .before .mask-bytes .ensures in
-    let first : length (a .a .now) ≡ 4 ^ (a .level) = omega (arith, n) in
-    let second : length (a .b .now) ≡ 4 ^ (a .level) = omega (arith, n) in
-    let v = lowest-none (difference (marked (a .a .now)) (marked (a .b .now))) (8 * 4 ^ (a .level)) 0 (λ d h. c .before .first-lacking .ensures .0 d (omega (arith, n))) in
-    simp (le-ltb _ _ (c .before .before .before .before .before .if1 .left), eq-eqb _ _ first, eq-eqb _ _ second, v)
+    let d = c .before .before .before in
+    let a = entry d .args in
+    let m = first d in
+    let P = difference (marked (a .a .now)) (marked (a .b .now)) in
+    let v = lowest-none P (8 * 4 ^ a .level) 0 (λ e h. c .before .first-lacking .ensures .0 e (omega (arith, m .long))) in
+    simp (m .passes .0, m .passes .1 .0, eq-eqb _ _ (second (c .before .before)), v)
 
 pub within-spec : {M : Type 1} → statement M
 within-spec =
     tie.close
     (tie.spec
+    is-mask-requires
+    enum-known-n
+    enum-told
     returns
-    mask-bytes-requires
+    first-lacking-requires
+    cast-if2
+    mul-if2
     returns-2
     returns-3
-    first-lacking-requires
-    cast-if4
-    mul-if4
-    returns-4
-    returns-5)
+    returns-4)

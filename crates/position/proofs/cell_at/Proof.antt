@@ -1,41 +1,67 @@
--- `cell_at` meets its contract. Its tests are the definition's, in their order; past them the place is that of the position, and since that place occurs `number_of` does not refuse it.
+-- `cell_at` meets its contract. Its tests are the definition's, in their order; past them the place is that of the position, and since that place
+-- occurs `number_of` does not refuse it.
 -- Assumes nothing.
+use Prim.Native.Nat.{ℕ, _%_}
 use borrow.Author.Needs.{needs}
-use mathlib.Core.Path.{_≡_, ap, sym, _∙_}
-use mathlib.Core.Bool.{false}
-use native.Mathlib.Omega.{arith}
-use lib.Dec.{ltb}
 use borrow.Author.Tests.{lt-ltb, le-ltb}
-use lib.IntN.{natAbs}
-use Rattle.cell.specs.Cell.{placeOf, saidNumber, numberCall}
-use Rattle.position.specs.Position.{q, placeAt, longitudeOut, cellCall}
-use Rattle.position.proofs.Laws.{offset-below, place-at-occurs, number-given}
+use mathlib.Core.List.{[], _∷_}
+use mathlib.Core.Path.{_≡_, ap, sym, _∙_}
+use native.Mathlib.Omega.{arith}
+use lib.IntN.{ℤ, natAbs}
+use Rattle.refusal.specs.Tests.{badLevel}
+use Rattle.refusal.proofs.Answers.{Passed, gives}
+use Rattle.cell.specs.Cell.{saidNumber, numberCall, maxLevel}
+use Rattle.cell.proofs.Answers.{given-number}
+use Rattle.position.specs.Position.{q, fromWest, octant, offset, frameAt, placeAt, badLatitude, badLongitude, cellCall}
+use Rattle.position.proofs.Laws.{place-at-occurs}
 use Rattle.position.proofs.cell_at.Statement.{statement}
 use Rattle.position.proofs.cell_at.Tie as tie
 
 returns : tie.Need-returns
-returns c = simp (lt-ltb _ _ (c .if1 .taken))
+returns c = simp (lt-ltb maxLevel (c .before .args .level) (omega arith))
 
-size-of-requires : tie.Need-size-of-requires
-size-of-requires c κs = search needs
-
-returns-2 : tie.Need-returns-2
-returns-2 c = simp (le-ltb _ _ (c .before .before .if1 .left), lt-ltb q (natAbs (c .before .before .before .args .latitude .0)) (omega (arith, c .before .size-of .ensures)))
+from-equator-requires : tie.Need-from-equator-requires
+from-equator-requires c κs = search needs
 
 longitude-out-requires : tie.Need-longitude-out-requires
 longitude-out-requires c κs = search needs
 
+returns-2 : tie.Need-returns-2
+returns-2 c =
+    let s = c .before .before in
+    let y = s .before .before .args .latitude .0 in
+    simp (le-ltb _ _ (s .before .if1 .left), lt-ltb q (natAbs y) (omega (arith, s .from-equator .ensures)))
+
 returns-3 : tie.Need-returns-3
-returns-3 c = simp (le-ltb _ _ (c .before .before .before .before .if1 .left), le-ltb q (natAbs (c .before .before .before .before .before .args .latitude .0)) (omega (arith, c .before .before .before .size-of .ensures)), sym (c .before .longitude-out .ensures) ∙ c .if3 .taken)
+returns-3 c =
+    let w = c .before .before in
+    let s = w .before in
+    let y = s .before .before .args .latitude .0 in
+    let north = le-ltb q (natAbs y) (omega (arith, s .from-equator .ensures)) in
+    simp (le-ltb _ _ (s .before .if1 .left), north, sym (w .longitude-out .ensures) ∙ c .if3 .taken)
+
+-- the state at entry
+abbrev entry : tie.Else3 → tie.Start
+entry c = c .before .before .before .before .before
+
+-- past the tests none applies
+past : (c : tie.Else3) →
+    let a = entry c .args in
+    Passed (badLevel maxLevel (a .level) ∷ badLatitude (a .latitude .0) ∷ badLongitude (a .longitude .0) ∷ [])
+past c =
+    let w = c .before .before in
+    let s = w .before in
+    let north = le-ltb q (natAbs (entry c .args .latitude .0)) (omega (arith, s .from-equator .ensures)) in
+    (le-ltb _ _ (s .before .if1 .left), (north, (sym (w .longitude-out .ensures) ∙ c .if3 .left, tt)))
 
 octant-of-requires : tie.Need-octant-of-requires
-octant-of-requires c κs = search needs
+octant-of-requires c κs = past c .1 .1 .0
 
-offset-of-requires : tie.Need-offset-of-requires
-offset-of-requires c κs = search needs
+from-west-requires : tie.Need-from-west-requires
+from-west-requires c κs = past (c .before) .1 .1 .0
 
 place-at-requires : tie.Need-place-at-requires
-place-at-requires c κs = (omega arith, omega arith, rw (c .offset-of .ensures) (offset-below (c .before .before .before .before .before .before .before .args .longitude .0)))
+place-at-requires c κs = omega arith
 
 number-of-requires : tie.Need-number-of-requires
 number-of-requires c κs = search needs
@@ -46,19 +72,27 @@ enum-known-answer c = search needs
 enum-known-answer-2 : tie.Need-enum-known-answer-2
 enum-known-answer-2 c = search needs
 
--- past the tests the place asked for is that of the position, and it occurs, so its number is not refused
-called : (c : tie.After-number-of) → saidNumber (c .number-of .result) ≡ cellCall (c .before .before .before .before .before .before .before .before .before .args .level) (c .before .before .before .before .before .before .before .before .before .args .latitude .0) (c .before .before .before .before .before .before .before .before .before .args .longitude .0)
-unfolding placeAt
+-- the place of a position, by its octant, its distance from the equator and its longitude counted from the west
+position : (k : ℕ) (y x : ℤ) (o p w : ℕ) → o ≡ octant y x → p ≡ natAbs y → w ≡ fromWest x → (o, frameAt k p (w % q)) ≡ placeAt k y x
+unfolding placeAt offset
+position k y x o p w e f g = rw (e, f, g)
+
+-- there the place asked for is that of the position, and it occurs, so its number is not refused
+called : (c : tie.After-number-of) →
+    let a = entry (c .before .before .before .before) .args in
+    saidNumber (c .number-of .result) ≡ cellCall (a .level) (a .latitude .0) (a .longitude .0)
 called c =
-    let a = c .before .before .before .before .before .before .before .before .before .args in
-    let k = a .level in
-    let y = a .latitude .0 in
-    let x = a .longitude .0 in
-    let size = c .before .before .before .before .before .before .before .size-of .ensures in
-    let north : ltb q (natAbs y) ≡ false = le-ltb q (natAbs y) (omega (arith, size)) in
-    let east : longitudeOut x ≡ false = sym (c .before .before .before .before .before .longitude-out .ensures) ∙ c .before .before .before .before .if3 .left in
-    let at : placeOf (c .before .place-at .result) ≡ placeAt k y x = c .before .place-at .ensures ∙ rw (c .before .before .before .octant-of .ensures, size, c .before .before .offset-of .ensures) in
-    simp (le-ltb _ _ (c .before .before .before .before .before .before .before .before .if1 .left), north, east) (c .number-of .ensures ∙ ap (numberCall k) at ∙ number-given k (placeAt k y x) (omega arith) (place-at-occurs k y x north))
+    let w = c .before .before in
+    let s = w .before .before in
+    let a = entry s .args in
+    let p = placeAt (a .level) (a .latitude .0) (a .longitude .0) in
+    let size = s .before .before .before .from-equator .ensures in
+    let at = position (a .level) (a .latitude .0) (a .longitude .0) _ _ _ (w .before .octant-of .ensures) size (w .from-west .ensures) in
+    let o = place-at-occurs (a .level) (a .latitude .0) (a .longitude .0) (past s .1 .0) in
+    c .number-of .ensures
+    ∙ ap (numberCall (a .level)) (c .before .place-at .ensures ∙ at)
+    ∙ given-number (a .level) p (omega arith) o
+    ∙ gives (badLevel maxLevel (a .level) ∷ badLatitude (a .latitude .0) ∷ badLongitude (a .longitude .0) ∷ []) _ (past s)
 
 returns-4 : tie.Need-returns-4
 returns-4 c = ap saidNumber (sym (c .before .answer .given .1)) ∙ called (c .before .before .before)
@@ -71,12 +105,12 @@ cell-at-spec =
     tie.close
     (tie.spec
     returns
-    size-of-requires
-    returns-2
+    from-equator-requires
     longitude-out-requires
+    returns-2
     returns-3
     octant-of-requires
-    offset-of-requires
+    from-west-requires
     place-at-requires
     number-of-requires
     enum-known-answer

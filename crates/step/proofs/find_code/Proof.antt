@@ -6,13 +6,14 @@ use mathlib.Core.Path.{_≡_, sym, _∙_}
 use native.Mathlib.Omega.{arith}
 use borrow.Author.Count.{below-more}
 use Rattle.cell.specs.Cell.{placeOf, number}
-use Rattle.step.specs.Step.{step, leads}
+use Rattle.step.specs.Step.{step, leadsTo}
 use Rattle.step.proofs.Laws.{code-leads, no-code}
 use Rattle.step.proofs.find_code.Statement.{statement}
 use Rattle.step.proofs.find_code.Tie as tie
 
 abbrev Inv-loop : tie.InvT-loop
-Inv-loop level from to code₀ code = (code ≤ 8) × ((d : ℕ) → d < code → leads level (number level (placeOf to)) (step level (placeOf from) d) ≡ false)
+Inv-loop level from to code₀ code =
+    (code ≤ 8) × ((d : ℕ) → d < code → leadsTo level (number level (placeOf to)) (step level (placeOf from) d) ≡ false)
 
 abbrev μ-loop : tie.MeasureT-loop
 μ-loop level from to code₀ code = 8 - code
@@ -27,7 +28,9 @@ returns : tie.Need-returns Inv-loop μ-loop
 returns c =
     let s = c .before .before .before .before in
     let a = s .args in
-    simp (code-leads (a .level) (number (a .level) (placeOf (a .to))) (placeOf (a .from)) (c .before .before .before .loop .code) (s .pre .1) .1 (sym (c .before .joins .ensures) ∙ c .if1 .taken))
+    let n = number (a .level) (placeOf (a .to)) in
+    let d = c .before .before .before .loop .code in
+    simp (code-leads (a .level) n (placeOf (a .from)) d (s .pre .1) .1 (sym (c .before .joins .ensures) ∙ c .if1 .taken))
 
 add-code : tie.Need-add-code Inv-loop μ-loop
 add-code c = omega arith

@@ -5,8 +5,8 @@ use Prim.Native.Nat.{_+_, _≤_, _^_}
 use mathlib.Core.Path.{sym}
 use native.Mathlib.Omega.{arith}
 use borrow.Author.Needs.{needs}
-use Rattle.cell.specs.Cell.{span, up, down}
-use Rattle.step.specs.Step.{step, steps}
+use Rattle.cell.specs.Cell.{span, up, down, maxLevel}
+use Rattle.step.specs.Step.{across, east, west, step, steps}
 use Rattle.step.proofs.Laws.{past-seven}
 use Rattle.step.proofs.Body.{rows-shifted, rows-bound, inside-less, inside-test, missed}
 use Rattle.step.proofs.from_up.Statement.{statement}
@@ -16,7 +16,7 @@ shl-rows : tie.Need-shl-rows
 shl-rows c = search needs
 
 -- row and column end inside the octant, and so far below what a number holds
-room : (c : tie.Start) → (c .args .row + c .args .col + 1 ≤ 2 ^ c .args .level) × (2 ^ c .args .level ≤ 2 ^ 14)
+room : (c : tie.Start) → (c .args .row + c .args .col + 1 ≤ 2 ^ c .args .level) × (2 ^ c .args .level ≤ 2 ^ maxLevel)
 unfolding span
 room c = (c .pre .1 .1, rows-bound (c .args .level) (c .pre .0))
 
@@ -26,82 +26,123 @@ add-end c = omega (arith, room c)
 add-end-2 : tie.Need-add-end-2
 add-end-2 c = omega (arith, room c)
 
-row-before-requires : tie.Need-row-before-requires
-row-before-requires c κs = search needs
+add-across : tie.Need-add-across
+add-across c = search needs
 
-col-before-requires : tie.Need-col-before-requires
-col-before-requires c κs = search needs
+mul-east : tie.Need-mul-east
+mul-east c = search needs
 
-only-requires : tie.Need-only-requires
-only-requires c κs = search needs
+add-east : tie.Need-add-east
+add-east c = search needs
 
-add-only : tie.Need-add-only
-add-only c = omega (arith, room (c .before))
+add-east-2 : tie.Need-add-east-2
+add-east-2 c = search needs
 
-only-requires-2 : tie.Need-only-requires-2
-only-requires-2 c κs = search needs
+mul-west : tie.Need-mul-west
+mul-west c = search needs
 
-col-before-requires-2 : tie.Need-col-before-requires-2
-col-before-requires-2 c κs = search needs
+add-west : tie.Need-add-west
+add-west c = search needs
 
-across-requires : tie.Need-across-requires
-across-requires c κs = search needs
+add-west-2 : tie.Need-add-west-2
+add-west-2 c = search needs
 
-only-requires-3 : tie.Need-only-requires-3
-only-requires-3 c κs = search needs
+one-less-requires : tie.Need-one-less-requires
+one-less-requires c κs = search needs
 
-east-requires : tie.Need-east-requires
-east-requires c κs = search needs
+found-if-requires : tie.Need-found-if-requires
+found-if-requires c κs = search needs
 
-only-requires-4 : tie.Need-only-requires-4
-only-requires-4 c κs = search needs
+one-less-requires-2 : tie.Need-one-less-requires-2
+one-less-requires-2 c κs = search needs
 
-west-requires : tie.Need-west-requires
-west-requires c κs = search needs
+found-if-requires-2 : tie.Need-found-if-requires-2
+found-if-requires-2 c κs = search needs
 
-sub-only : tie.Need-sub-only
-sub-only c = let s = c .before .before in rw (rows-shifted (s .args .level) (s .pre .0)) (omega (arith, room s))
+found-if-requires-3 : tie.Need-found-if-requires-3
+found-if-requires-3 c κs = search needs
 
-sub-only-2 : tie.Need-sub-only-2
-sub-only-2 c = let s = c .before .before in rw (rows-shifted (s .args .level) (s .pre .0)) (omega (arith, room s))
+add-found-if : tie.Need-add-found-if
+add-found-if c = omega (arith, room (c .before))
 
-only-requires-5 : tie.Need-only-requires-5
-only-requires-5 c κs = search needs
+found-if-requires-4 : tie.Need-found-if-requires-4
+found-if-requires-4 c κs = search needs
+
+one-less-requires-3 : tie.Need-one-less-requires-3
+one-less-requires-3 c κs = search needs
+
+found-if-requires-5 : tie.Need-found-if-requires-5
+found-if-requires-5 c κs = search needs
+
+found-if-requires-6 : tie.Need-found-if-requires-6
+found-if-requires-6 c κs = search needs
+
+found-if-requires-7 : tie.Need-found-if-requires-7
+found-if-requires-7 c κs = search needs
+
+sub-found-if : tie.Need-sub-found-if
+sub-found-if c = let s = c .before in rw (rows-shifted (s .args .level) (s .pre .0)) (omega (arith, room s))
+
+sub-found-if-2 : tie.Need-sub-found-if-2
+sub-found-if-2 c = let s = c .before in rw (rows-shifted (s .args .level) (s .pre .0)) (omega (arith, room s))
+
+found-if-requires-8 : tie.Need-found-if-requires-8
+found-if-requires-8 c κs = search needs
 
 returns : tie.Need-returns
 unfolding step steps span
-returns c = let s = c .before .before in rw (c .before .match .keys1, inside-less (s .args .level) (s .args .octant) (s .args .row) (λ a. down a (s .args .col)) (λ m e. omega (arith, room s))) (c .row-before .ensures)
+returns c =
+    let s = c .before .before .before in
+    let a = s .args in
+    let i = inside-less (a .level) (a .octant) (a .row) (λ n. down n (a .col)) (λ m e. omega (arith, room s)) in
+    rw (c .before .before .match .keys1, i, ← (c .before .one-less .ensures)) (c .found-if .ensures)
 
 returns-2 : tie.Need-returns-2
 unfolding step steps span
-returns-2 c = let s = c .before .before in rw (c .before .match .keys2, inside-less (s .args .level) (s .args .octant) (s .args .col) (λ b. down (s .args .row) b) (λ m e. omega (arith, room s))) (c .col-before .ensures)
+returns-2 c =
+    let s = c .before .before .before in
+    let a = s .args in
+    let i = inside-less (a .level) (a .octant) (a .col) (λ n. down (a .row) n) (λ m e. omega (arith, room s)) in
+    rw (c .before .before .match .keys2, i, ← (c .before .one-less2 .ensures)) (c .found-if2 .ensures)
 
 returns-3 : tie.Need-returns-3
 unfolding step steps span
-returns-3 c = let s = c .before .before in rw (c .before .match .keys3, inside-test (s .args .level) (s .args .row + s .args .col + 1) (s .args .row + s .args .col + 2) (s .pre .0) (omega arith)) (c .only .ensures)
+returns-3 c =
+    let a = c .before .before .args in
+    let t = inside-test (a .level) (a .row + a .col + 1) (a .row + a .col + 2) (c .before .before .pre .0) (omega arith) in
+    rw (c .before .match .keys3, t) (c .found-if3 .ensures)
 
 returns-4 : tie.Need-returns-4
 unfolding step steps span
-returns-4 c = let s = c .before .before in rw (c .before .match .keys4, inside-test (s .args .level) (s .args .row + s .args .col + 1) (s .args .row + (s .args .col + 1) + 1) (s .pre .0) (omega arith)) (c .only2 .ensures)
+returns-4 c =
+    let a = c .before .before .args in
+    let t = inside-test (a .level) (a .row + a .col + 1) (a .row + (a .col + 1) + 1) (c .before .before .pre .0) (omega arith) in
+    rw (c .before .match .keys4, t) (c .found-if4 .ensures)
 
 returns-5 : tie.Need-returns-5
 unfolding step steps span
-returns-5 c = let s = c .before .before in rw (c .before .match .keys5, inside-less (s .args .level) (s .args .octant) (s .args .col) (λ b. up (s .args .row) b) (λ m e. omega (arith, room s))) (c .col-before2 .ensures)
+returns-5 c =
+    let s = c .before .before .before in
+    let a = s .args in
+    let i = inside-less (a .level) (a .octant) (a .col) (λ n. up (a .row) n) (λ m e. omega (arith, room s)) in
+    rw (c .before .before .match .keys5, i, ← (c .before .one-less3 .ensures)) (c .found-if5 .ensures)
 
 returns-6 : tie.Need-returns-6
-unfolding step steps
-returns-6 c = rw (c .before .before .match .keys6, ← (c .before .across .ensures)) (c .only3 .ensures)
+unfolding step steps across
+returns-6 c = rw (c .before .match .keys6) (c .found-if6 .ensures)
 
 returns-7 : tie.Need-returns-7
-unfolding step steps
-returns-7 c = let s = c .before .before .before in rw (c .before .before .match .keys7, ← (c .before .east .ensures), ← (rows-shifted (s .args .level) (s .pre .0))) (c .only4 .ensures)
+unfolding step steps east
+returns-7 c = let s = c .before .before in rw (c .before .match .keys7, ← (rows-shifted (s .args .level) (s .pre .0))) (c .found-if7 .ensures)
 
 returns-8 : tie.Need-returns-8
-unfolding step steps
-returns-8 c = let s = c .before .before .before in rw (c .before .before .match .keys8, ← (c .before .west .ensures), ← (rows-shifted (s .args .level) (s .pre .0))) (c .only5 .ensures)
+unfolding step steps west
+returns-8 c = let s = c .before .before in rw (c .before .match .keys8, ← (rows-shifted (s .args .level) (s .pre .0))) (c .found-if8 .ensures)
 
 returns-9 : tie.Need-returns-9
-returns-9 c = let a = c .before .args in sym (past-seven (a .level) (a .octant, up (a .row) (a .col)) (a .code) (missed (a .code) 8 (c .match .rest)))
+returns-9 c =
+    let a = c .before .args in
+    sym (past-seven (a .level) (a .octant, up (a .row) (a .col)) (a .code) (missed (a .code) 8 (c .match .rest)))
 
 pub from-up-spec : {M : Type 1} → statement M
 from-up-spec =
@@ -110,20 +151,27 @@ from-up-spec =
     shl-rows
     add-end
     add-end-2
-    row-before-requires
-    col-before-requires
-    only-requires
-    add-only
-    only-requires-2
-    col-before-requires-2
-    across-requires
-    only-requires-3
-    east-requires
-    only-requires-4
-    west-requires
-    sub-only
-    sub-only-2
-    only-requires-5
+    add-across
+    mul-east
+    add-east
+    add-east-2
+    mul-west
+    add-west
+    add-west-2
+    one-less-requires
+    found-if-requires
+    one-less-requires-2
+    found-if-requires-2
+    found-if-requires-3
+    add-found-if
+    found-if-requires-4
+    one-less-requires-3
+    found-if-requires-5
+    found-if-requires-6
+    found-if-requires-7
+    sub-found-if
+    sub-found-if-2
+    found-if-requires-8
     returns
     returns-2
     returns-3

@@ -8,14 +8,14 @@ use Rattle.step.proofs.Body.{same-leads}
 use Rattle.step.proofs.joins.Statement.{statement}
 use Rattle.step.proofs.joins.Tie as tie
 
-next-of-requires : tie.Need-next-of-requires
-next-of-requires c κs = search needs
+target-of-requires : tie.Need-target-of-requires
+target-of-requires c κs = search needs
 
-enum-known-next : tie.Need-enum-known-next
-enum-known-next c = search needs
+enum-known-target : tie.Need-enum-known-target
+enum-known-target c = search needs
 
-same-requires : tie.Need-same-requires
-same-requires c κs = search needs
+same-place-requires : tie.Need-same-place-requires
+same-place-requires c κs = search needs
 
 enum-told : tie.Need-enum-told
 enum-told c = search needs
@@ -23,13 +23,14 @@ enum-told c = search needs
 returns : tie.Need-returns
 returns c =
     let s = c .before .before .before .before .before in
-    let q = c .before .before .next .given .0 .0 in
-    let e = rw (c .before .before .next .given .1) at (sym (c .before .before .before .before .next-of .ensures)) in
-    rw e (c .same .ensures ∙ same-leads (s .args .level) q (s .args .to) (step-occurs (s .args .level) (placeOf (s .args .from)) (s .args .code) (placeOf q) (s .pre .1) e) (s .pre .2))
+    let q = c .before .before .target .given .0 .0 in
+    let e = rw (c .before .before .target .given .1) at (sym (c .before .before .before .before .target-of .ensures)) in
+    let o = step-occurs (s .args .level) (placeOf (s .args .from)) (s .args .code) (placeOf q) (s .pre .1) e in
+    rw e (c .same-place .ensures ∙ same-leads (s .args .level) q (s .args .to) o (s .pre .2))
 
 returns-2 : tie.Need-returns-2
-returns-2 c = simp (← (c .before .before .next-of .ensures), c .enum-told .given .1)
+returns-2 c = simp (← (c .before .before .target-of .ensures), c .enum-told .given .1)
 
 pub joins-spec : {M : Type 1} → statement M
 joins-spec =
-    tie.close (tie.spec next-of-requires enum-known-next same-requires enum-told returns returns-2)
+    tie.close (tie.spec target-of-requires enum-known-target same-place-requires enum-told returns returns-2)

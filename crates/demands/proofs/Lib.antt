@@ -1,0 +1,7 @@
+pub mod Demand1
+pub mod Codes
+pub mod Touching
+pub mod Demand2
+pub mod Steps
+pub mod Growings
+pub mod Demand3

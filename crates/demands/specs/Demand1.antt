@@ -1,0 +1,95 @@
+-- Demand 1: what is refused, and how (document 01, "Refused calls").
+use Prim.Native.Nat.{ℕ, _≤_, _^_}
+use mathlib.Core.Path.{_≡_}
+use mathlib.Core.Bool.{true}
+use mathlib.Core.List.{List, [], _∷_}
+use mathlib.Core.Logic.{_⊎_, _↔_}
+use lib.IntN.{ℤ}
+use lib.ListN.{length, replicate}
+use Rattle.refusal.specs.Answer.{Answer, given, refused, Test, _when_, done}
+use Rattle.refusal.specs.Tests.{badLevel, badLength}
+use Rattle.bitset.specs.Bits.{marked, bytesOf, size, outside}
+use Rattle.cell.specs.Cell.{Place, place, number, cells, maxLevel, badCell, badPlace, placeCall, numberCall}
+use Rattle.position.specs.Position.{placeAt, badLatitude, badLongitude, cellCall, centre, centreCall}
+use Rattle.step.specs.Step.{step, foundOr, codeTo, badStep, stepCall, codeCall}
+use Rattle.corner.specs.Corner.{touches, touchCall}
+use Rattle.touch.specs.Touch.{touching, padded, listCall}
+use Rattle.mask.specs.Mask.{maxMaskLevel, maskCall, countCall, union, joinCall, difference, lowest, withinCall}
+use Rattle.grow.specs.Grow.{badRings, grownCells, shrunkCells, growCall, shrinkCall}
+use Rattle.fill.specs.Fill.{reachable, badOutside, fillCall}
+
+-- a test with the number n applies
+abbrev pub Applies : ℕ → List Test → Type 0
+Applies n [] = ⊥
+Applies n ((m when b) ∷ ts) = ((n ≡ m) × (b ≡ true)) ⊎ Applies n ts
+
+-- n is the lowest number that applies
+pub record Lowest (n : ℕ) (ts : List Test) : Type 0 where
+  pub applies : Applies n ts
+  pub least : (m : ℕ) → Applies m ts → n ≤ m
+
+-- a call answers by its tests
+pub record ByTests {A : Type 0} (ts : List Test) (answer : Answer A) (value : A) : Type 0 where
+  -- it is refused exactly when one of them applies, and then by the lowest number that applies
+  pub refuses : (n : ℕ) → (answer ≡ refused n) ↔ Lowest n ts
+  -- and gives its value exactly when none applies
+  pub gives : (answer ≡ given value) ↔ ((n : ℕ) → Applies n ts → ⊥)
+
+-- and so does a call that is lent slices, which hold `before` when it is made
+pub record LentByTests {A S : Type 0} (ts : List Test) (result : Answer A × S) (value : A) (before after : S) : Type 0 where
+  pub answers : ByTests ts (result .0) value
+  -- a refused one leaves every lent slice as it was
+  pub leaves : (n : ℕ) → result .0 ≡ refused n → result .1 ≡ before
+  -- one that is not refused writes them
+  pub writes : result .0 ≡ given value → result .1 ≡ after
+
+-- Demand 1, call by call: the tests, each under its number, are those that document 01's table gives the call
+pub record Demand1 : Type 0 where
+  -- place of a number: 1, 4
+  pub place-of : (k n : ℕ) → ByTests (badLevel maxLevel k ∷ badCell k n ∷ []) (placeCall k n) (place k n)
+  -- number of a place: 1, 4
+  pub number-of : (k : ℕ) (p : Place) → ByTests (badLevel maxLevel k ∷ badPlace k p ∷ []) (numberCall k p) (number k p)
+  -- cell at a position: 1, 2, 3
+  pub cell-at : (k : ℕ) (y x : ℤ) →
+      ByTests (badLevel maxLevel k ∷ badLatitude y ∷ badLongitude x ∷ []) (cellCall k y x) (number k (placeAt k y x))
+  -- centre of a cell: 1, 4
+  pub centre-of : (k n : ℕ) → ByTests (badLevel maxLevel k ∷ badCell k n ∷ []) (centreCall k n) (centre k (place k n))
+  -- step along a code: 1, 4, 7
+  pub step-along : (k n c : ℕ) →
+      ByTests (badLevel maxLevel k ∷ badCell k n ∷ badStep (step k (place k n) c) ∷ [])
+      (stepCall k n c) (number k (foundOr (place k n) (step k (place k n) c)))
+  -- code between two cells: 1, 4, 7
+  pub code-between : (k m n : ℕ) →
+      ByTests (badLevel maxLevel k ∷ badCell k m ∷ badCell k n ∷ badStep (codeTo k n (place k m)) ∷ [])
+      (codeCall k m n) (foundOr 0 (codeTo k n (place k m)))
+  -- whether two cells touch: 1, 4
+  pub cells-touch : (k m n : ℕ) → ByTests (badLevel maxLevel k ∷ badCell k m ∷ badCell k n ∷ []) (touchCall k m n) (touches k m n)
+  -- the list of touching cells: 1, 4, 5
+  pub touching-cells : (k n : ℕ) (out : List ℕ) →
+      LentByTests (badLevel maxLevel k ∷ badCell k n ∷ badLength 12 out ∷ [])
+      (listCall k n out) (length (touching k n)) out (padded (touching k n))
+  -- whether a slice is a mask: 1, 5
+  pub is-mask : (k : ℕ) (a : List ℕ) → ByTests (badLevel maxMaskLevel k ∷ badLength (4 ^ k) a ∷ []) (maskCall k a) done
+  -- the count of marked cells: 1, 5
+  pub count : (k : ℕ) (a : List ℕ) →
+      ByTests (badLevel maxMaskLevel k ∷ badLength (4 ^ k) a ∷ []) (countCall k a) (size (cells k) (marked a))
+  -- join: 1, 5
+  pub join : (k : ℕ) (a b out : List ℕ) →
+      LentByTests (badLevel maxMaskLevel k ∷ badLength (4 ^ k) a ∷ badLength (4 ^ k) b ∷ badLength (4 ^ k) out ∷ [])
+      (joinCall k a b out) done out (bytesOf (4 ^ k) (union (marked a) (marked b)))
+  -- within: 1, 5
+  pub within : (k : ℕ) (a b : List ℕ) →
+      ByTests (badLevel maxMaskLevel k ∷ badLength (4 ^ k) a ∷ badLength (4 ^ k) b ∷ [])
+      (withinCall k a b) (lowest (difference (marked a) (marked b)) (cells k) 0)
+  -- grow: 1, 5, 6
+  pub grow : (k m : ℕ) (a out work : List ℕ) →
+      LentByTests (badLevel maxMaskLevel k ∷ badLength (4 ^ k) a ∷ badLength (4 ^ k) out ∷ badLength (4 ^ k) work ∷ badRings m ∷ [])
+      (growCall k m a out work) done (out, work) (bytesOf (4 ^ k) (grownCells k m (marked a)), replicate (4 ^ k) 0)
+  -- shrink: 1, 5, 6
+  pub shrink : (k m : ℕ) (a out work : List ℕ) →
+      LentByTests (badLevel maxMaskLevel k ∷ badLength (4 ^ k) a ∷ badLength (4 ^ k) out ∷ badLength (4 ^ k) work ∷ badRings m ∷ [])
+      (shrinkCall k m a out work) done (out, work) (bytesOf (4 ^ k) (shrunkCells k m (marked a)), replicate (4 ^ k) 0)
+  -- fill: 1, 4, 5, 8
+  pub fill : (k : ℕ) (a : List ℕ) (o : ℕ) (out : List ℕ) →
+      LentByTests (badLevel maxMaskLevel k ∷ badCell k o ∷ badLength (4 ^ k) a ∷ badLength (4 ^ k) out ∷ badOutside a o ∷ [])
+      (fillCall k a o out) done out (bytesOf (4 ^ k) (outside (reachable k (marked a) o)))

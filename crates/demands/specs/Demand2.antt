@@ -1,0 +1,150 @@
+-- Demand 2: cells and their numbers, positions, centres, steps, touching and filling are as document 01 says, by the calls' answers.
+use Prim.Native.Nat.{ℕ, suc, _+_, _*_, _-_, _/_, _^_, _≤_, _<_}
+use mathlib.Core.Path.{_≡_}
+use mathlib.Core.Bool.{true, false}
+use mathlib.Core.List.{List, [], _∷_, _++_, map}
+use mathlib.Core.Logic.{_⊎_, _↔_}
+use lib.IntN.{ℤ, pos, natAbs, negℤ, _+ℤ_}
+use lib.ListN.{length, replicate}
+use Rattle.refusal.specs.Answer.{given, refused, done}
+use Rattle.bitset.specs.Bits.{marked}
+use Rattle.cell.specs.Cell.{Frame, up, down, child, Place, place, Occurs, cells, maxLevel, placeCall, numberCall}
+use Rattle.position.specs.Position.{q, latitudeOut, longitudeOut, beginning, northOctant, offset, octant, Holds, cellCall, centreCall}
+use Rattle.step.specs.Step.{across, east, west, stepCall, codeCall}
+use Rattle.step.specs.Neighbours.{back, direct, isDirect, Neighbours}
+use Rattle.corner.specs.Corner.{Point, norm, corners, touchCall}
+use Rattle.touch.specs.Touch.{rising, indirect, CornerCell, cellsAt, Tip, unused, listCall}
+use Rattle.fill.specs.Fill.{Reachable, fillCall}
+
+-- ---- the steps inside an octant, line by line
+
+-- the codes 0 to 4 are t, l, r, e, w: along the code, from one frame to another
+pub data Inside : ℕ → Frame → Frame → Type 0 where
+  up-t : {a b : ℕ} → Inside 0 (up (a + 1) b) (down a b)
+  up-l : {a b : ℕ} → Inside 1 (up a (b + 1)) (down a b)
+  up-r : {a b : ℕ} → Inside 2 (up a b) (down a b)
+  down-t : {a b : ℕ} → Inside 0 (down a b) (up (a + 1) b)
+  down-l : {a b : ℕ} → Inside 1 (down a b) (up a b)
+  down-r : {a b : ℕ} → Inside 2 (down a b) (up a (b + 1))
+  up-e : {a b : ℕ} → Inside 3 (up a b) (up a (b + 1))
+  up-w : {a b : ℕ} → Inside 4 (up a (b + 1)) (up a b)
+  down-e : {a b : ℕ} → Inside 3 (down a b) (down a (b + 1))
+  down-w : {a b : ℕ} → Inside 4 (down a (b + 1)) (down a b)
+
+-- ---- lists
+
+-- x stands in a list
+abbrev pub In : {A : Type 0} → A → List A → Type 0
+In x [] = ⊥
+In x (y ∷ ys) = (x ≡ y) ⊎ In x ys
+
+-- a list rises, from m on
+abbrev pub Rises : ℕ → List ℕ → Type 0
+Rises m [] = Unit {0}
+Rises m (x ∷ xs) = (m ≤ x) × Rises (x + 1) xs
+
+-- what a slice of 12 holds where j cells are listed in it: exactly the cells that touch cell n, each once, rising, and then unused places
+pub record TouchList (k n j : ℕ) (slice : List ℕ) : Type 0 where
+  pub listed : List ℕ
+  pub count : length listed ≡ j
+  pub room : j ≤ 12
+  pub holds : slice ≡ listed ++ replicate (12 - j) unused
+  pub rises : Rises 0 listed
+  pub exactly : (m : ℕ) → In m listed ↔ (touchCall k n m ≡ given true)
+
+-- ---- the demand
+
+pub record Demand2 : Type 0 where
+  -- a number's place has that number, and a place's number has that place
+  pub numbered : (k n : ℕ) (p : Place) → (placeCall k n ≡ given p) ↔ (numberCall k p ≡ given n)
+  -- the places are up(a,b) with a+b ≤ N−1 and down(a,b) with a+b ≤ N−2, in octants 0 to 7, and no others
+  pub places : (k : ℕ) (p : Place) → k ≤ maxLevel → ((n : ℕ) × (placeCall k n ≡ given p)) ↔ Occurs k p
+  -- level 0 is up(0,0)
+  pub level-zero : (n : ℕ) → n < 8 → placeCall 0 n ≡ given (n, up 0 0)
+  -- child d of cell n of level k, by the table of children, is cell 4n + d of level k + 1
+  pub children : (k n d : ℕ) (p : Place) → suc k ≤ maxLevel → d < 4 → placeCall k n ≡ given p →
+      placeCall (suc k) (4 * n + d) ≡ given (p .0, child (p .1) d)
+  -- every position of the ranges has a cell at every level to 14
+  pub has-cell : (k : ℕ) (y x : ℤ) → k ≤ maxLevel → latitudeOut y ≡ false → longitudeOut x ≡ false →
+      (n : ℕ) × (n < cells k) × (cellCall k y x ≡ given n)
+  -- a longitude is its octant's beginning and m, and m is below q
+  pub longitude : (x : ℤ) → longitudeOut x ≡ false → (beginning (northOctant x) +ℤ pos (offset x) ≡ x) × (offset x < q)
+  -- below the poles the cell answered lies in the position's octant, and holds the position
+  pub cell-holds : (k : ℕ) (y x : ℤ) (n : ℕ) → cellCall k y x ≡ given n → natAbs y < q →
+      (place k n .0 ≡ octant y x) × Holds k (natAbs y) (offset x) (place k n .1)
+  -- and no other cell of that octant holds it
+  pub cell-alone : (k : ℕ) (y x : ℤ) (n m : ℕ) → cellCall k y x ≡ given n → natAbs y < q →
+      place k m .0 ≡ octant y x → Holds k (natAbs y) (offset x) (place k m .1) → m ≡ n
+  -- at a pole it is up(N−1,0) of the octant that the longitude names
+  pub at-pole : (k : ℕ) (y x : ℤ) (n : ℕ) → cellCall k y x ≡ given n → natAbs y ≡ q → place k n ≡ (octant y x, up (2 ^ k - 1) 0)
+  -- south is the mirror image of north: the cell at −y is that at y, four octants on
+  pub south-mirrors : (k y : ℕ) (x : ℤ) (n : ℕ) → 1 ≤ y →
+      (cellCall k (pos y) x ≡ given n) ↔ (cellCall k (negℤ (pos y)) x ≡ given (n + 4 * 4 ^ k))
+  -- the cell of a position one level up is the parent of its cell, at the poles too
+  pub cell-nests : (k : ℕ) (y x : ℤ) (n : ℕ) → cellCall (suc k) y x ≡ given n → cellCall k y x ≡ given (n / 4)
+  -- every cell of every level to 14 has a centre, and the cell at that centre is the cell
+  pub has-centre : (k n : ℕ) → k ≤ maxLevel → n < cells k →
+      (c : ℤ × ℤ) × (centreCall k n ≡ given c) × (cellCall k (c .0) (c .1) ≡ given n)
+  -- whatever centre is given leads back
+  pub centre-returns : (k n : ℕ) (y x : ℤ) → centreCall k n ≡ given (y, x) → cellCall k y x ≡ given n
+  -- t, l, r, e and w lead where the paper's lines say, and inside the octant only
+  pub inside-octant : (k n m c : ℕ) → c < 5 →
+      (stepCall k n c ≡ given m) ↔
+      ((o : ℕ) × (f : Frame) × (g : Frame) × (placeCall k n ≡ given (o, f)) × (placeCall k m ≡ given (o, g)) × Inside c f g)
+  -- a = 0 gives T, the same (a,b) in the other hemisphere; for up cells alone
+  pub T-leads : (k n m : ℕ) → (stepCall k n 5 ≡ given m) ↔
+      ((o : ℕ) × (b : ℕ) × (placeCall k n ≡ given (o, up 0 b)) × (placeCall k m ≡ given (across o, up 0 b)))
+  -- a+b = N−1 gives E, up(a,0) of the octant to the east; for up cells alone
+  pub E-leads : (k n m : ℕ) → (stepCall k n 6 ≡ given m) ↔
+      ((o : ℕ) × (a : ℕ) × (b : ℕ) × (a + b + 1 ≡ 2 ^ k) ×
+      (placeCall k n ≡ given (o, up a b)) × (placeCall k m ≡ given (east o, up a 0)))
+  -- b = 0 gives W, up(a,N−1−a) of the octant to the west; for up cells alone
+  pub W-leads : (k n m : ℕ) → (stepCall k n 7 ≡ given m) ↔
+      ((o : ℕ) × (a : ℕ) × (placeCall k n ≡ given (o, up a 0)) × (placeCall k m ≡ given (west o, up a (2 ^ k - 1 - a))))
+  -- east runs 0, 1, 2, 3, 0 and 4, 5, 6, 7, 4
+  pub east-runs : map east (0 ∷ 1 ∷ 2 ∷ 3 ∷ 4 ∷ 5 ∷ 6 ∷ 7 ∷ []) ≡ 1 ∷ 2 ∷ 3 ∷ 0 ∷ 5 ∷ 6 ∷ 7 ∷ 4 ∷ []
+  -- a code above 7 is refused 7
+  pub code-above : (k n c : ℕ) → k ≤ maxLevel → n < cells k → 7 < c → stepCall k n c ≡ refused 7
+  -- the code between two cells is c exactly when the step along c leads from the one to the other
+  pub code-is : (k n m c : ℕ) → (codeCall k n m ≡ given c) ↔ (stepCall k n c ≡ given m)
+  -- no two codes lead from a cell to one cell
+  pub one-code : (k n c d m : ℕ) → stepCall k n c ≡ given m → stepCall k n d ≡ given m → c ≡ d
+  -- two cells of the level are refused 7 exactly when no code joins them
+  pub no-code : (k n m : ℕ) → k ≤ maxLevel → n < cells k → m < cells k →
+      (codeCall k n m ≡ refused 7) ↔ ((c : ℕ) → ¬ (stepCall k n c ≡ given m))
+  -- a step can be taken back, along the code back
+  pub step-back : (k n c m : ℕ) → stepCall k n c ≡ given m → stepCall k m (back c) ≡ given n
+  -- each cell has exactly three direct neighbours, by t or T, l or W, r or E
+  pub three-neighbours : (k n : ℕ) → k ≤ maxLevel → n < cells k → Neighbours k n
+  pub three-direct : (k n : ℕ) → n < cells k → length (rising (isDirect k n) (cells k) 0) ≡ 3
+  -- the direct neighbours that filling goes by are those to which a direct code leads
+  pub direct-step : (k n m : ℕ) → k ≤ maxLevel → n < cells k →
+      (isDirect k n m ≡ true) ↔ ((c : ℕ) × (direct c ≡ true) × (stepCall k n c ≡ given m))
+  -- two different cells touch when they have a point in common, and only then
+  pub touch-point : (k n m : ℕ) → k ≤ maxLevel → n < cells k → m < cells k →
+      (touchCall k n m ≡ given true) ↔ (¬ (n ≡ m) × ((x : Point) × In x (corners k (place k n)) × In x (corners k (place k m))))
+  -- touching is mutual, refusals too
+  pub touch-mutual : (k n m : ℕ) → touchCall k n m ≡ touchCall k m n
+  -- direct neighbours touch
+  pub neighbours-touch : (k n m c : ℕ) → direct c ≡ true → stepCall k n c ≡ given m → touchCall k n m ≡ given true
+  -- the list of touching cells: exactly these cells, each once, rising by number, in a slice of 12 whose unused places hold 4,294,967,295
+  pub touch-list : (k n j : ℕ) (out : List ℕ) → listCall k n out .0 ≡ given j → TouchList k n j (listCall k n out .1)
+  -- they are 6 at level 0; above it 10 for an octant's three corner cells, and 12 for others
+  pub six-touch : (n j : ℕ) (out : List ℕ) → listCall 0 n out .0 ≡ given j → j ≡ 6
+  pub ten-touch : (k n j : ℕ) (out : List ℕ) → listCall k n out .0 ≡ given j → 1 ≤ k → CornerCell k (place k n) → j ≡ 10
+  pub twelve-touch : (k n j : ℕ) (out : List ℕ) → listCall k n out .0 ≡ given j → 1 ≤ k → ¬ CornerCell k (place k n) → j ≡ 12
+  -- the seven indirect neighbours of a corner cell are three at level 0
+  pub seven-indirect : (k n : ℕ) → 1 ≤ k → n < cells k → CornerCell k (place k n) → length (indirect k n) ≡ 7
+  pub three-indirect : (n : ℕ) → n < cells 0 → length (indirect 0 n) ≡ 3
+  -- points on the edges of octants are points like others: six cells meet at each, but four at the octahedron's six corners
+  pub six-meet : (k : ℕ) (x y z : ℤ) → norm (x ∷ y ∷ z ∷ []) ≡ 2 ^ k → ¬ Tip (x ∷ y ∷ z ∷ []) → length (cellsAt k (x ∷ y ∷ z ∷ [])) ≡ 6
+  pub four-meet : (k : ℕ) (x y z : ℤ) → norm (x ∷ y ∷ z ∷ []) ≡ 2 ^ k → Tip (x ∷ y ∷ z ∷ []) → length (cellsAt k (x ∷ y ∷ z ∷ [])) ≡ 4
+  -- filled are exactly the cells that the outside cell can't reach by direct steps through unmarked cells
+  pub fill-exactly : (k : ℕ) (a : List ℕ) (o : ℕ) (out : List ℕ) → fillCall k a o out .0 ≡ given done →
+      (c : ℕ) → c < cells k → (marked (fillCall k a o out .1) c ≡ true) ↔ ¬ Reachable k (marked a) o c
+  -- the border is part of the fill
+  pub border-filled : (k : ℕ) (a : List ℕ) (o : ℕ) (out : List ℕ) → fillCall k a o out .0 ≡ given done →
+      (c : ℕ) → c < cells k → marked a c ≡ true → marked (fillCall k a o out .1) c ≡ true
+  -- and the outside cell is not
+  pub outside-open : (k : ℕ) (a : List ℕ) (o : ℕ) (out : List ℕ) → fillCall k a o out .0 ≡ given done →
+      marked (fillCall k a o out .1) o ≡ false

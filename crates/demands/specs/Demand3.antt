@@ -1,0 +1,117 @@
+-- Demand 3: growing and shrinking by touching steps, and lists of growings. Document 01 ("Corners and touching", "Masks") fixes its terms.
+use Prim.Native.Nat.{ℕ, _+_, _^_, _<_}
+use mathlib.Core.Path.{_≡_}
+use mathlib.Core.Bool.{Bool, true, _&&_}
+use mathlib.Core.List.{List, [], _∷_}
+use mathlib.Core.Logic.{_↔_}
+use lib.Dec.{ltb}
+use lib.ListN.{length}
+use Rattle.refusal.specs.Answer.{Answer, given, refused, done}
+use Rattle.bitset.specs.Bits.{Bytes, marked}
+use Rattle.cell.specs.Cell.{cells}
+use Rattle.corner.specs.Corner.{touches}
+use Rattle.mask.specs.Walk.{Walk}
+use Rattle.mask.specs.Mask.{within, joinCall, withinCall}
+use Rattle.grow.specs.Grow.{growCall, shrinkCall}
+
+-- ---- touching steps
+
+-- a touching step leads to a cell of the level
+unfoldable pub touchingStep : ℕ → ℕ → ℕ → Bool
+touchingStep k c d = touches k c d && ltb d (cells k)
+
+-- c is at most m touching steps from d: some list of at most m + 1 cells of level k begins with c and ends with d, each touching the next
+abbrev pub AtMostSteps : ℕ → ℕ → ℕ → ℕ → Type 0
+AtMostSteps k m c d = Walk (touchingStep k) m c d
+
+-- c is at most m touching steps from a cell that a mask marks
+abbrev pub NearMarked : ℕ → ℕ → List ℕ → ℕ → Type 0
+NearMarked k m a c = (d : ℕ) × (d < cells k) × (marked a d ≡ true) × AtMostSteps k m c d
+
+-- ---- lists of growings
+
+-- a mask of level k: 4^k bytes
+abbrev pub Mask : ℕ → List ℕ → Type 0
+Mask k a = (length a ≡ 4 ^ k) × Bytes a
+
+-- a call that is lent slices, and was not refused
+abbrev pub Accepted : {S : Type 0} → Answer (Unit {0}) × S → Type 0
+Accepted result = result .0 ≡ given done
+
+-- the mask that a growing or shrinking writes
+abbrev pub written : Answer (Unit {0}) × (List ℕ × List ℕ) → List ℕ
+written result = result .1 .0
+
+-- one growing of a list: any level, any ring count, and any slices to write and to work in, whatever they hold
+pub record Growing : Type 0 where
+  pub level : ℕ
+  pub rings : ℕ
+  pub lent : List ℕ
+  pub working : List ℕ
+
+-- what it answers and leaves when it reads a mask
+abbrev pub growing : Growing → List ℕ → Answer (Unit {0}) × (List ℕ × List ℕ)
+growing g a = growCall (g .level) (g .rings) a (g .lent) (g .working)
+
+-- the mask that the next one reads: the one written, or, where the growing was refused, the one that was there
+unfoldable pub maskAfter : Answer (Unit {0}) → List ℕ → List ℕ → List ℕ
+maskAfter (given v) new old = new
+maskAfter (refused n) new old = old
+
+-- what a growing adds to the sum of ring counts: nothing where it was refused
+unfoldable pub ringsAdded : Answer (Unit {0}) → ℕ → ℕ
+ringsAdded (given v) m = m
+ringsAdded (refused n) m = 0
+
+-- the mask after one growing, and after a list of them
+abbrev pub afterOne : Growing → List ℕ → List ℕ
+afterOne g a = maskAfter (growing g a .0) (written (growing g a)) a
+
+unfoldable pub after : List Growing → List ℕ → List ℕ
+after [] a = a
+after (g ∷ gs) a = after gs (afterOne g a)
+
+-- the sum of the accepted ring counts; it may pass 64
+unfoldable pub ringsOf : List Growing → List ℕ → ℕ
+ringsOf [] a = 0
+ringsOf (g ∷ gs) a = ringsAdded (growing g a .0) (g .rings) + ringsOf gs (afterOne g a)
+
+-- ---- the demand
+
+pub record Demand3 : Type 0 where
+  -- A grown by m marks exactly the cells at most m touching steps from a cell marked in A
+  pub grown : (k m : ℕ) (a out work : List ℕ) → Accepted (growCall k m a out work) →
+      (c : ℕ) → c < cells k → (marked (written (growCall k m a out work)) c ≡ true) ↔ NearMarked k m a c
+  -- A shrunk by m marks exactly the cells from which every cell within m touching steps is marked
+  pub shrunk : (k m : ℕ) (a out work : List ℕ) → Accepted (shrinkCall k m a out work) →
+      (c : ℕ) → c < cells k →
+      (marked (written (shrinkCall k m a out work)) c ≡ true) ↔ ((d : ℕ) → d < cells k → AtMostSteps k m c d → marked a d ≡ true)
+  -- after any list of growings the mask marks exactly the cells at most s touching steps from A, s the sum of the accepted ring counts
+  pub list : (k : ℕ) (a : List ℕ) → Mask k a → (gs : List Growing) →
+      (c : ℕ) → c < cells k → (marked (after gs a) c ≡ true) ↔ NearMarked k (ringsOf gs a) a c
+  -- where a growing by s is accepted, so with s at most 64, its bytes are those of A grown once by s
+  pub list-once : (k : ℕ) (a : List ℕ) → Mask k a → (gs : List Growing) (out work : List ℕ) →
+      Accepted (growCall k (ringsOf gs a) a out work) → after gs a ≡ written (growCall k (ringsOf gs a) a out work)
+  -- after the empty list the mask is A, and the sum 0
+  pub list-empty : (a : List ℕ) → (after [] a ≡ a) × (ringsOf [] a ≡ 0)
+  -- A and B joined and then grown by m have the bytes of A and B each grown by m and then joined, whatever slices are lent
+  pub joined : (k m : ℕ) (a b j o w o₁ w₁ o₂ w₂ j′ : List ℕ) →
+      let both = joinCall k a b j .1 in
+      let A = growCall k m a o₁ w₁ in
+      let B = growCall k m b o₂ w₂ in
+      Accepted (joinCall k a b j) → Accepted (growCall k m both o w) →
+      Accepted A → Accepted B → Accepted (joinCall k (written A) (written B) j′) →
+      written (growCall k m both o w) ≡ joinCall k (written A) (written B) j′ .1
+  -- A grown by m is answered within B exactly when A is answered within B shrunk by m
+  pub grown-within : (k m : ℕ) (a b o w o′ w′ : List ℕ) →
+      Accepted (growCall k m a o w) → Accepted (shrinkCall k m b o′ w′) →
+      (withinCall k (written (growCall k m a o w)) b ≡ given within) ↔ (withinCall k a (written (shrinkCall k m b o′ w′)) ≡ given within)
+  -- growing by 0 is A
+  pub zero-rings : (k : ℕ) (a out work : List ℕ) → Mask k a → Accepted (growCall k 0 a out work) → written (growCall k 0 a out work) ≡ a
+  -- growing only adds
+  pub only-adds : (k m : ℕ) (a out work : List ℕ) → Accepted (growCall k m a out work) →
+      (c : ℕ) → c < cells k → marked a c ≡ true → marked (written (growCall k m a out work)) c ≡ true
+  -- c is at most m touching steps from d exactly when d is from c
+  pub both-ways : (k m c d : ℕ) → c < cells k → d < cells k → AtMostSteps k m c d ↔ AtMostSteps k m d c
+  -- a cell is 0 steps from itself
+  pub itself : (k c d : ℕ) → AtMostSteps k 0 c d ↔ (c ≡ d)

@@ -1,0 +1,65 @@
+-- `fill` meets its contract: a call that its tests refuse leaves the slice, and of any other what the search reached is complemented. Assumes nothing.
+use mathlib.Core.Path.{_≡_, sym, ap, _∙_}
+use native.Mathlib.Omega.{arith}
+use borrow.Author.Needs.{needs}
+use Rattle.refusal.specs.Answer.{given, inOrder, done}
+use Rattle.fill.specs.Fill.{fillTests, saidFill}
+use Rattle.fill.proofs.Answers.{ready, fill-refused, fill-done}
+use Rattle.fill.proofs.fill.Statement.{statement}
+use Rattle.fill.proofs.fill.Tie as tie
+
+returns : tie.Need-returns
+returns c = search fill-refused
+
+fill-tests-requires : tie.Need-fill-tests-requires
+fill-tests-requires c κs = search needs
+
+enum-known-n : tie.Need-enum-known-n
+enum-known-n c = search needs
+
+enum-told : tie.Need-enum-told
+enum-told c = search needs
+
+abbrev entry : tie.After-enum-told → tie.Start
+entry c = c .before .before .before .before .before .before
+
+-- no test refused
+told : (c : tie.After-enum-told) → let a = entry c .args in given done ≡ inOrder (fillTests (a .level) (a .border .now) (a .outside) (a .out .now)) done
+told c = sym (ap saidFill (c .enum-told .given .1)) ∙ c .before .before .fill-tests .ensures
+
+reach-all-requires : tie.Need-reach-all-requires
+reach-all-requires c κs =
+    let a = entry (c .before) .args in
+    let r = ready (a .level) (a .border .now) (a .outside) (a .out .now) (told (c .before)) in
+    omega (arith, r .level, r .written, r .cell)
+
+complement-requires : tie.Need-complement-requires
+complement-requires c κs = search needs
+
+same-length : tie.Need-same-length
+same-length c = search needs
+
+same-length-2 : tie.Need-same-length-2
+same-length-2 c = search needs
+
+returns-2 : tie.Need-returns-2
+returns-2 c =
+    let n = c .before .before in
+    let s = n .before .before .before .before in
+    let e = s .before .before in
+    let a = entry e .args in
+    fill-done (a .level) (a .border .now) (a .outside) (a .out .now) _ _ (told e) (s .reach-all .ensures) (n .complement .ensures)
+
+pub fill-spec : {M : Type 1} → statement M
+fill-spec =
+    tie.close
+    (tie.spec
+    fill-tests-requires
+    enum-known-n
+    enum-told
+    reach-all-requires
+    complement-requires
+    same-length
+    returns
+    same-length-2
+    returns-2)

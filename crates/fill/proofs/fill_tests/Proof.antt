@@ -1,0 +1,100 @@
+-- `fill_tests` meets its contract, test by test. Assumes nothing.
+use Prim.Native.Nat.{ℕ, _*_, _%_, _^_, _≤_, _<_}
+use mathlib.Core.Path.{_≡_, sym, _∙_}
+use native.Mathlib.Omega.{arith}
+use borrow.Author.Tests.{lt-ltb, le-ltb, le-leb, lt-leb, eq-eqb, ne-eqb}
+use lib.ListN.{length}
+use Rattle.cell.specs.Cell.{cells}
+use Rattle.cell.proofs.Laws.{shift-four, shifted, past-level, below-level}
+use Rattle.mask.specs.Mask.{maxMaskLevel}
+use borrow.Author.Needs.{needs}
+use Rattle.fill.proofs.fill_tests.Statement.{statement}
+use Rattle.fill.proofs.fill_tests.Tie as tie
+
+-- a one shifted by twice the level is the number of bytes
+bytes : (k : ℕ) → k ≤ maxMaskLevel → 1 * 2 ^ (2 * k) % 2 ^ 64 ≡ 4 ^ k
+bytes k h = shifted 64 (2 * k) (omega arith) ∙ shift-four k
+
+returns : tie.Need-returns
+returns c = simp (lt-ltb maxMaskLevel (c .before .before .before .args .level) (omega arith))
+
+mul-if2 : tie.Need-mul-if2
+mul-if2 c = search needs
+
+shr-if2 : tie.Need-shr-if2
+shr-if2 c = search needs
+
+returns-2 : tie.Need-returns-2
+returns-2 c =
+    let a = c .before .before .before .before .args in
+    simp (le-ltb maxMaskLevel (a .level) (omega arith), le-leb _ _ (past-level (a .level) (a .outside) (c .if2 .taken)))
+
+abbrev entry : tie.Else2 → tie.Start
+entry c = c .before .before .before .before
+
+low : (c : tie.Else2) → entry c .args .level ≤ maxMaskLevel
+low c = omega arith
+
+in-range : (c : tie.Else2) → entry c .args .outside < cells (entry c .args .level)
+in-range c = below-level (entry c .args .level) (entry c .args .outside) (c .if2 .left)
+
+mul-bytes : tie.Need-mul-bytes
+mul-bytes c = search needs
+
+cast-bytes : tie.Need-cast-bytes
+cast-bytes c = search needs
+
+shl-bytes : tie.Need-shl-bytes
+shl-bytes c = search needs
+
+returns-3 : tie.Need-returns-3
+returns-3 c =
+    let e = c .before in
+    let a = entry e .args in
+    let n : length (a .border .now) ≡ 4 ^ a .level → ⊥ = λ q. omega (arith, bytes (a .level) (low e)) in
+    simp (le-ltb maxMaskLevel (a .level) (low e), lt-leb _ _ (in-range e), ne-eqb _ _ n)
+
+first : (c : tie.Else3) → length (entry (c .before) .args .border .now) ≡ 4 ^ entry (c .before) .args .level
+first c = omega (arith, bytes (entry (c .before) .args .level) (low (c .before)))
+
+returns-4 : tie.Need-returns-4
+returns-4 c =
+    let e = c .before .before in
+    let a = entry e .args in
+    let n : length (a .out .now) ≡ 4 ^ a .level → ⊥ = λ q. omega (arith, bytes (a .level) (low e)) in
+    simp (le-ltb maxMaskLevel (a .level) (low e), lt-leb _ _ (in-range e), eq-eqb _ _ (first (c .before)), ne-eqb _ _ n)
+
+second : (c : tie.Else4) → length (entry (c .before .before) .args .out .now) ≡ 4 ^ entry (c .before .before) .args .level
+second c = omega (arith, bytes (entry (c .before .before) .args .level) (low (c .before .before)))
+
+is-marked-requires : tie.Need-is-marked-requires
+is-marked-requires c κs = search needs
+
+returns-5 : tie.Need-returns-5
+returns-5 c =
+    let f = c .before .before in
+    let e = f .before .before in
+    simp (le-ltb maxMaskLevel (entry e .args .level) (low e), lt-leb _ _ (in-range e), eq-eqb _ _ (first (f .before)), eq-eqb _ _ (second f), sym (c .before .is-marked .ensures) ∙ c .if5 .taken)
+
+returns-6 : tie.Need-returns-6
+returns-6 c =
+    let f = c .before .before in
+    let e = f .before .before in
+    simp (le-ltb maxMaskLevel (entry e .args .level) (low e), lt-leb _ _ (in-range e), eq-eqb _ _ (first (f .before)), eq-eqb _ _ (second f), sym (c .before .is-marked .ensures) ∙ c .if5 .left)
+
+pub fill-tests-spec : {M : Type 1} → statement M
+fill-tests-spec =
+    tie.close
+    (tie.spec
+    returns
+    mul-if2
+    shr-if2
+    returns-2
+    mul-bytes
+    cast-bytes
+    shl-bytes
+    returns-3
+    returns-4
+    is-marked-requires
+    returns-5
+    returns-6)

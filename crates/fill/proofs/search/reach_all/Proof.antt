@@ -1,0 +1,125 @@
+-- `reach_all` meets its contract. The invariant is the search's; the measure is what is left to see and to visit. Assumes nothing.
+use Prim.Native.Nat.{ℕ, _*_, _%_, _^_, _≤_, _<_}
+use mathlib.Core.List.{List}
+use mathlib.Core.Path.{_≡_, refl, sym, ap, subst, _∙_}
+use native.Mathlib.Nat.{mod-eq-of-lt}
+use native.Mathlib.Omega.{arith}
+use borrow.Author.Needs.{needs}
+use lib.Dec.{eqb}
+use lib.ListN.{length, replicate, length-replicate}
+use Rattle.bitset.specs.Bits.{Bytes, marked, marking}
+use Rattle.bitset.proofs.Laws.{marked-marking}
+use Rattle.bitset.proofs.Outside.{marked-zeros}
+use Rattle.cell.specs.Cell.{cells}
+use Rattle.cell.proofs.Laws.{shift-four}
+use Rattle.mask.specs.Mask.{maxMaskLevel}
+use Rattle.mask.proofs.Laws.{mask-small}
+use Rattle.fill.proofs.Searching.{Search, search-start, search-ends, marking-long, visited-long, search-more, less-left, waiting}
+use Rattle.fill.proofs.search.reach_all.Statement.{statement}
+use Rattle.fill.proofs.search.reach_all.Tie as tie
+
+abbrev Inv-loop : tie.InvT-loop
+Inv-loop level outside border out₀ seen₀ end cell₀ out seen cell =
+    (end ≡ cells level) × (length out ≡ 4 ^ level) × (length seen ≡ 65536) × Bytes out × Search level outside border out seen cell
+
+abbrev μ-loop : tie.MeasureT-loop
+μ-loop level outside border out₀ seen₀ end cell₀ out seen cell = waiting level seen cell
+
+clear-requires : tie.Need-clear-requires Inv-loop μ-loop
+clear-requires c κs = search needs
+
+mark-requires : tie.Need-mark-requires Inv-loop μ-loop
+mark-requires c κs = search needs
+
+mul-end : tie.Need-mul-end Inv-loop μ-loop
+mul-end c = omega arith
+
+shl-end : tie.Need-shl-end Inv-loop μ-loop
+shl-end c = omega arith
+
+-- eight shifted by twice the level is the number of cells
+all-cells : (k : ℕ) → k ≤ maxMaskLevel → 8 * 2 ^ (2 * k) % 2 ^ 32 ≡ cells k
+all-cells k h = rw shift-four (mod-eq-of-lt (omega (arith, mask-small k h)))
+
+loop-holds : tie.Need-loop-holds Inv-loop μ-loop
+loop-holds c =
+    let m = c .before .before in
+    let d = m .before .before .before .before in
+    let e = d .before .before .before .before in
+    let a = e .args in
+    let zeros : List ℕ = replicate (length (a .out .now)) 0 in
+    let cleared = d .clear .ensures in
+    let out = m .mark .ensures ∙ ap (λ (l : List ℕ). marking l (a .outside)) cleared in
+    let long : length zeros ≡ 4 ^ a .level = length-replicate (length (a .out .now)) 0 ∙ e .pre .1 in
+    let alone : (i : ℕ) → marked (marking zeros (a .outside)) i ≡ eqb (a .outside) i = λ i. marked-marking zeros (a .outside) i (omega (arith, e .pre .2, long)) ∙ rw (marked-zeros (length (a .out .now)) i) in (
+      all-cells (a .level) (e .pre .0),
+      ap length out ∙ marking-long zeros (a .outside) ∙ long,
+      refl,
+      (λ i. c .slice-known3 .given i .fits),
+      search-start (a .level) (a .outside) (a .border .now) (e .pre .2) _ _ (λ i. ap (λ (l : List ℕ). marked l i) out ∙ alone i) (λ i. marked-zeros 65536 i),
+    )
+
+visit-requires : tie.Need-visit-requires Inv-loop μ-loop
+visit-requires c κs =
+    let l = c .before .before .before .loop in
+    let e = c .before .before .before .before .before .before .before .before .before .before .before .before .before .before in
+    (e .pre .0, l .inv .1, omega (arith, l .inv .0))
+
+abbrev looped : tie.After-visit Inv-loop μ-loop → tie.At-loop Inv-loop μ-loop
+looped v = v .before .before .before .before
+
+abbrev entry : tie.After-visit Inv-loop μ-loop → tie.Start Inv-loop μ-loop
+entry v = looped v .before .before .before .before .before .before .before .before .before .before .before
+
+inside : (v : tie.After-visit Inv-loop μ-loop) → looped v .loop .cell < cells (entry v .args .level)
+inside v = omega (arith, looped v .loop .inv .0)
+
+room : (v : tie.After-visit Inv-loop μ-loop) → cells (entry v .args .level) ≤ 8 * length (looped v .loop .seen)
+room v = omega (arith, looped v .loop .inv .2, mask-small (entry v .args .level) (entry v .pre .0))
+
+loop-less : tie.Need-loop-less Inv-loop μ-loop
+loop-less c =
+    let v = c .before .before in
+    let l = looped v in
+    let e = entry v in
+    less-left (e .args .level) (e .args .outside) (e .args .border .now) (l .loop .out) (l .loop .seen) _ _ (l .loop .cell) _ (v .visit .ensures) (e .pre .2) (inside v) (room v) (l .loop .inv .4)
+
+loop-again : tie.Need-loop-again Inv-loop μ-loop
+loop-again c =
+    let v = c .before .before in
+    let l = looped v in
+    let e = entry v in (
+      l .loop .inv .0,
+      v .visit .kept .1 .1 .1 .0 ∙ l .loop .inv .1,
+      visited-long (e .args .level) (e .args .outside) (e .args .border .now) (l .loop .out) (l .loop .seen) _ _ (l .loop .cell) _ (v .visit .ensures) ∙ l .loop .inv .2,
+      (λ i. c .slice-known4 .given i .fits),
+      search-more (e .args .level) (e .args .outside) (e .args .border .now) (l .loop .out) (l .loop .seen) _ _ (l .loop .cell) _ (v .visit .ensures) (e .pre .2) (inside v) (room v) (l .loop .inv .4),
+    )
+
+same-length : tie.Need-same-length Inv-loop μ-loop
+same-length c = c .before .loop .inv .1 ∙ sym (c .before .before .before .before .before .before .before .before .before .before .before .before .pre .1)
+
+returns : tie.Need-returns Inv-loop μ-loop
+returns c =
+    let l = c .before .loop in
+    let e = c .before .before .before .before .before .before .before .before .before .before .before .before in
+    let a = e .args in
+    let end : l .cell ≡ cells (a .level) = omega (arith, l .inv .0, l .inv .4 .limit) in
+    search-ends (a .level) (a .outside) (a .border .now) (e .pre .2) (l .out) (l .seen) (subst (Search (a .level) (a .outside) (a .border .now) (l .out) (l .seen)) end (l .inv .4)) (l .inv .1) (l .inv .3)
+
+pub reach-all-spec : {M : Type 1} → statement M
+reach-all-spec =
+    tie.close
+    (tie.spec
+    Inv-loop
+    μ-loop
+    clear-requires
+    mark-requires
+    mul-end
+    shl-end
+    loop-holds
+    visit-requires
+    loop-less
+    loop-again
+    same-length
+    returns)

@@ -1,0 +1,43 @@
+-- Filling a region (document 01, "Masks"): all cells that the outside cell can't reach by direct steps through unmarked cells.
+use Prim.Native.Nat.{ℕ, _^_}
+use mathlib.Core.Bool.{Bool, _&&_, not}
+use mathlib.Core.List.{List, [], _∷_}
+use Rattle.refusal.specs.Answer.{Answer, given, refused, Test, _when_, inOrder, lending, done}
+use Rattle.refusal.specs.Tests.{badLevel, badLength}
+use Rattle.bitset.specs.Bits.{marked, bytesOf, outside}
+use Rattle.cell.specs.Cell.{cells, badCell}
+use Rattle.step.specs.Neighbours.{isDirect}
+use Rattle.mask.specs.Mask.{maxMaskLevel}
+use Rattle.mask.specs.Walk.{Walk}
+use Rattle.mask.specs.Reach.{reaches}
+use Rattle.fill.specs.declared.FillAnswer.{FillAnswer}
+use Rattle.fill.specs.declared.FillAnswer.the-variants as fill-answer
+
+-- a direct step to a cell that is not in a set
+unfoldable pub openStep : ℕ → (ℕ → Bool) → ℕ → ℕ → Bool
+openStep k A c d = isDirect k c d && not (A d)
+
+-- the paper's words: some list of cells begins with the outside cell o and ends with c, from each a direct step to the next, which is unmarked
+abbrev pub Reachable : ℕ → (ℕ → Bool) → ℕ → ℕ → Type 0
+Reachable k A o c = (m : ℕ) × Walk (openStep k A) m o c
+
+-- the same computed: as many steps as there are cells are enough
+unfoldable pub reachable : ℕ → (ℕ → Bool) → ℕ → ℕ → Bool
+reachable k A o c = reaches (cells k) (openStep k A) (cells k) o c
+
+-- 8: the outside cell is marked
+abbrev pub badOutside : List ℕ → ℕ → Test
+badOutside a o = 8 when marked a o
+
+-- refused 1, 4, 5, 8
+abbrev pub fillTests : ℕ → List ℕ → ℕ → List ℕ → List Test
+fillTests k a o out = badLevel maxMaskLevel k ∷ badCell k o ∷ badLength (4 ^ k) a ∷ badLength (4 ^ k) out ∷ badOutside a o ∷ []
+
+-- fill: reads a border and an outside cell, and marks in another mask what that cell can't reach; the border is part of it
+abbrev pub fillCall : ℕ → List ℕ → ℕ → List ℕ → Answer (Unit {0}) × List ℕ
+fillCall k a o out = lending (inOrder (fillTests k a o out) done) out (bytesOf (4 ^ k) (outside (reachable k (marked a) o)))
+
+-- what the code's answers say
+abbrev pub saidFill : FillAnswer → Answer (Unit {0})
+saidFill fill-answer.Filled = given done
+saidFill (fill-answer.Refused n) = refused n

@@ -1,0 +1,4 @@
+pub mod Bytes
+pub mod Reached
+pub mod Growth
+pub mod Answers

@@ -1,0 +1,68 @@
+-- `grow` meets its contract: a call that its tests refuse leaves both slices, and any other writes them. Assumes nothing.
+use mathlib.Core.Path.{_≡_, sym, ap, _∙_}
+use native.Mathlib.Omega.{arith}
+use borrow.Author.Needs.{needs}
+use Rattle.refusal.specs.Answer.{given, inOrder, done}
+use Rattle.grow.specs.Grow.{ringTests, saidRings}
+use Rattle.grow.proofs.Answers.{ready, rings-refused, rings-done}
+use Rattle.grow.proofs.grow.Statement.{statement}
+use Rattle.grow.proofs.grow.Tie as tie
+
+returns : tie.Need-returns
+returns c = search rings-refused
+
+ring-tests-requires : tie.Need-ring-tests-requires
+ring-tests-requires c κs = search needs
+
+enum-known-n : tie.Need-enum-known-n
+enum-known-n c = search needs
+
+enum-told : tie.Need-enum-told
+enum-told c = search needs
+
+abbrev entry : tie.After-enum-told → tie.Start
+entry c = c .before .before .before .before .before .before .before .before
+
+-- no test refused
+told : (c : tie.After-enum-told) → let a = entry c .args in given done ≡ inOrder (ringTests (a .level) (a .rings) (a .mask .now) (a .out .now) (a .work .now)) done
+told c = sym (ap saidRings (c .enum-told .given .1)) ∙ c .before .before .ring-tests .ensures
+
+grow-into-requires : tie.Need-grow-into-requires
+grow-into-requires c κs =
+    let a = entry (c .before .before) .args in
+    let r = ready (a .level) (a .rings) (a .mask .now) (a .out .now) (a .work .now) (told (c .before .before)) in
+    omega (arith, r .level, r .read, r .written, r .working)
+
+same-length : tie.Need-same-length
+same-length c = search needs
+
+same-length-2 : tie.Need-same-length-2
+same-length-2 c = search needs
+
+same-length-3 : tie.Need-same-length-3
+same-length-3 c = search needs
+
+same-length-4 : tie.Need-same-length-4
+same-length-4 c = search needs
+
+returns-2 : tie.Need-returns-2
+returns-2 c =
+    let e = c .before .before .before .before .before .before .before in
+    let a = entry e .args in
+    let g = c .before .before .before .before .grow-into .ensures in
+    rings-done (a .level) (a .rings) (a .mask .now) (a .out .now) (a .work .now) _ _ _ _ (told e) (g .0) (g .1)
+
+pub grow-spec : {M : Type 1} → statement M
+grow-spec =
+    tie.close
+    (tie.spec
+    ring-tests-requires
+    enum-known-n
+    enum-told
+    grow-into-requires
+    same-length
+    same-length-2
+    returns
+    same-length-3
+    same-length-4
+    returns-2)

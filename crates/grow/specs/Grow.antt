@@ -1,0 +1,53 @@
+-- Growing and shrinking (document 01, "Masks"), by touching steps between the cells of a level.
+use Prim.Native.Nat.{ℕ, _^_}
+use mathlib.Core.Bool.{Bool}
+use mathlib.Core.List.{List, [], _∷_}
+use lib.Dec.{ltb}
+use lib.ListN.{replicate}
+use Rattle.refusal.specs.Answer.{Answer, given, refused, Test, _when_, inOrder, lending, done}
+use Rattle.refusal.specs.Tests.{badLevel, badLength}
+use Rattle.bitset.specs.Bits.{marked, bytesOf}
+use Rattle.cell.specs.Cell.{cells}
+use Rattle.corner.specs.Corner.{touches}
+use Rattle.mask.specs.Mask.{maxMaskLevel}
+use Rattle.mask.specs.Reach.{grown, shrunk}
+use Rattle.grow.specs.declared.RingsAnswer.{RingsAnswer}
+use Rattle.grow.specs.declared.RingsAnswer.the-variants as rings-answer
+
+-- cells at most m touching steps from a cell of a set
+abbrev pub grownCells : ℕ → ℕ → (ℕ → Bool) → ℕ → Bool
+grownCells k m A = grown (cells k) (touches k) m A
+
+-- cells from which every cell within m touching steps is in a set
+abbrev pub shrunkCells : ℕ → ℕ → (ℕ → Bool) → ℕ → Bool
+shrunkCells k m A = shrunk (cells k) (touches k) m A
+
+-- the most rings of one call
+abbrev pub maxRings : ℕ
+maxRings = 64
+
+-- 6: more rings than that
+abbrev pub badRings : ℕ → Test
+badRings m = 6 when ltb maxRings m
+
+-- the tests of both calls: refused 1, 5, 6
+abbrev pub ringTests : ℕ → ℕ → List ℕ → List ℕ → List ℕ → List Test
+ringTests k m a out work =
+    badLevel maxMaskLevel k ∷ badLength (4 ^ k) a ∷ badLength (4 ^ k) out ∷ badLength (4 ^ k) work ∷ badRings m ∷ []
+
+-- grow by m: reads a mask, writes another; the third, lent for working, holds zeros afterwards
+abbrev pub growCall : ℕ → ℕ → List ℕ → List ℕ → List ℕ → Answer (Unit {0}) × (List ℕ × List ℕ)
+growCall k m a out work =
+    lending (inOrder (ringTests k m a out work) done) (out, work)
+    (bytesOf (4 ^ k) (grownCells k m (marked a)), replicate (4 ^ k) 0)
+
+-- shrink by m: the same with the cells from which every cell within m touching steps is marked
+abbrev pub shrinkCall : ℕ → ℕ → List ℕ → List ℕ → List ℕ → Answer (Unit {0}) × (List ℕ × List ℕ)
+shrinkCall k m a out work =
+    lending (inOrder (ringTests k m a out work) done) (out, work)
+    (bytesOf (4 ^ k) (shrunkCells k m (marked a)), replicate (4 ^ k) 0)
+
+-- what the code's answers say
+abbrev pub saidRings : RingsAnswer → Answer (Unit {0})
+saidRings rings-answer.Done = given done
+saidRings (rings-answer.Refused n) = refused n

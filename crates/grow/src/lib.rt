@@ -1,0 +1,91 @@
+// Growing and shrinking of masks by rings of touching cells (dilation and erosion): document 01, "Masks".
+ghost use mathlib.Core.Path.{_≡_};
+ghost use Prim.Native.Nat.{_^_, _≤_};
+ghost use lib.ListN.{length, replicate};
+ghost use Rattle.refusal.specs.Answer.{done, inOrder};
+ghost use Rattle.bitset.specs.Bits.{marked, bytesOf};
+ghost use Rattle.mask.specs.Mask.{maxMaskLevel};
+ghost use Rattle.grow.specs.Grow.{grownCells, shrunkCells, ringTests, growCall, shrinkCall, saidRings};
+use mask::MaskAnswer;
+
+mod rings;
+
+// The most rings of one call.
+pub const MAX_RINGS: u32 = 64;
+
+pub enum RingsAnswer {
+    Done,
+    Refused(u8),
+}
+
+// Grows a mask of a level into another.
+fn grow_into(level: u32, rings: u32, mask: &[u8], out: &mut [u8], work: &mut [u8])
+    requires { ⌜ (level ≤ maxMaskLevel) × (length (now mask) ≡ 4 ^ level) × (length (now out) ≡ 4 ^ level) × (length (now work) ≡ 4 ^ level) ⌝ }
+    ensures grown { λ _. ⌜ now (out .exit) ≡ bytesOf (4 ^ level) (grownCells level rings (marked (now (mask .entry)))) ⌝ }
+    ensures cleared { λ _. ⌜ now (work .exit) ≡ replicate (4 ^ level) 0 ⌝ }
+{
+    bytes::copy(mask, out);
+    bytes::copy(mask, work);
+    rings::spread(level, rings, out, work);
+}
+
+// Shrinks a mask of a level into another: grows what is outside it.
+fn shrink_into(level: u32, rings: u32, mask: &[u8], out: &mut [u8], work: &mut [u8])
+    requires { ⌜ (level ≤ maxMaskLevel) × (length (now mask) ≡ 4 ^ level) × (length (now out) ≡ 4 ^ level) × (length (now work) ≡ 4 ^ level) ⌝ }
+    ensures shrunk { λ _. ⌜ now (out .exit) ≡ bytesOf (4 ^ level) (shrunkCells level rings (marked (now (mask .entry)))) ⌝ }
+    ensures cleared { λ _. ⌜ now (work .exit) ≡ replicate (4 ^ level) 0 ⌝ }
+{
+    bytes::copy(mask, out);
+    bitset::complement(out);
+    bytes::copy(out, work);
+    rings::spread(level, rings, out, work);
+    bitset::complement(out);
+}
+
+// Marks in `out` the cells at most `rings` touching steps from a cell that `mask` marks. `work` is lent for working and holds zeros afterwards.
+pub fn grow(level: u32, rings: u32, mask: &[u8], out: &mut [u8], work: &mut [u8]) -> RingsAnswer
+    ensures { λ r. ⌜ (saidRings r, (now (out .exit), now (work .exit))) ≡ growCall level rings (now (mask .entry)) (now (out .entry)) (now (work .entry)) ⌝ }
+{
+    match ring_tests(level, rings, mask, out, work) {
+        RingsAnswer::Refused(n) => RingsAnswer::Refused(n),
+        RingsAnswer::Done => {
+            grow_into(level, rings, mask, out, work);
+            RingsAnswer::Done
+        }
+    }
+}
+
+// Marks in `out` the cells from which every cell within `rings` touching steps is marked in `mask`. `work` is lent for working and holds zeros
+// afterwards.
+pub fn shrink(level: u32, rings: u32, mask: &[u8], out: &mut [u8], work: &mut [u8]) -> RingsAnswer
+    ensures { λ r. ⌜ (saidRings r, (now (out .exit), now (work .exit))) ≡ shrinkCall level rings (now (mask .entry)) (now (out .entry)) (now (work .entry)) ⌝ }
+{
+    match ring_tests(level, rings, mask, out, work) {
+        RingsAnswer::Refused(n) => RingsAnswer::Refused(n),
+        RingsAnswer::Done => {
+            shrink_into(level, rings, mask, out, work);
+            RingsAnswer::Done
+        }
+    }
+}
+
+// The tests of both calls.
+fn ring_tests(level: u32, rings: u32, mask: &[u8], out: &[u8], work: &[u8]) -> RingsAnswer
+    ensures { λ r. ⌜ saidRings r ≡ inOrder (ringTests level rings (now (mask .entry)) (now (out .entry)) (now (work .entry))) done ⌝ }
+{
+    match mask::is_mask(level, mask) {
+        MaskAnswer::Refused(n) => RingsAnswer::Refused(n),
+        MaskAnswer::Fits => {
+            if out.len() != mask.len() {
+                return RingsAnswer::Refused(refusal::LENGTH);
+            }
+            if work.len() != mask.len() {
+                return RingsAnswer::Refused(refusal::LENGTH);
+            }
+            if MAX_RINGS < rings {
+                return RingsAnswer::Refused(refusal::COUNT);
+            }
+            RingsAnswer::Done
+        }
+    }
+}

@@ -1,0 +1,122 @@
+-- What the two calls answer: the cell at a position holds it and no other cell of its octant does, south mirrors north, cells nest, and the cell
+-- at a cell's centre is the cell. Laws of the call definitions, over every level that they accept.
+-- Assumes nothing.
+use Prim.Native.Nat.{ℕ, suc, _+_, _*_, _-_, _/_, _^_, _≤_, _<_}
+use mathlib.Core.Bool.{false}
+use mathlib.Core.List.{List, [], _∷_}
+use mathlib.Core.Path.{_≡_, refl, sym, ap, ap₂, _∙_}
+use native.Mathlib.Nat.{add-mul}
+use native.Mathlib.Omega.{arith}
+use lib.IntN.{ℤ, pos, negsuc, natAbs}
+use lib.Pow.{pow-mono}
+use borrow.Author.Tests.{ltb-false, le-ltb}
+use Rattle.refusal.specs.Answer.{Test, given}
+use Rattle.refusal.specs.Tests.{badLevel}
+use Rattle.refusal.proofs.Answers.{passed, gives}
+use Rattle.cell.specs.Cell.{Frame, up, Place, place, number, maxLevel, cells}
+use Rattle.cell.proofs.Laws.{place-number, number-place}
+use Rattle.cell.proofs.Answers.{accepted, accepts}
+use Rattle.position.specs.Position.{q, latitudeOut, longitudeOut, octant, offset, Holds, placeAt, badLatitude, badLongitude, cellCall}
+use Rattle.position.specs.Position.{centre, centreCall}
+use Rattle.position.proofs.Laws.{holder-holds, holds-unique, frame-below, frame-pole, place-at-occurs, number-nested}
+use Rattle.position.proofs.Laws.{centre-latitude, centre-longitude, centre-return}
+
+-- ---- the cell at a position
+
+-- the tests of the call
+abbrev tests : ℕ → ℤ → ℤ → List Test
+tests k y x = badLevel maxLevel k ∷ badLatitude y ∷ badLongitude x ∷ []
+
+-- where level, latitude and longitude are in range, it gives the number of the position's place
+pub answers : (k : ℕ) (y x : ℤ) → k ≤ maxLevel → latitudeOut y ≡ false → longitudeOut x ≡ false → cellCall k y x ≡ given (number k (placeAt k y x))
+answers k y x h u v = sym (gives (tests k y x) (number k (placeAt k y x)) (le-ltb maxLevel k h, (u, (v, tt))))
+
+-- what is known where it gives cell n
+pub record Answered (k : ℕ) (y x : ℤ) (n : ℕ) : Type 0 where
+  pub level : k ≤ maxLevel
+  pub latitude : latitudeOut y ≡ false
+  pub longitude : longitudeOut x ≡ false
+  pub numbered : number k (placeAt k y x) ≡ n
+  pub at : place k n ≡ placeAt k y x
+
+pub answered : (k : ℕ) (y x : ℤ) (n : ℕ) → cellCall k y x ≡ given n → Answered k y x n
+answered k y x n e =
+    let t = passed (tests k y x) (number k (placeAt k y x)) n (sym e) in
+    record {
+      level = ltb-false maxLevel k (t .0 .0);
+      latitude = t .0 .1 .0;
+      longitude = t .0 .1 .1 .0;
+      numbered = t .1;
+      at = ap (place k) (sym (t .1)) ∙ place-number k (placeAt k y x) (place-at-occurs k y x (t .0 .1 .0));
+    }
+
+-- below the pole the cell answered is one of the position's octant and holds the position
+pub answered-holds : (k : ℕ) (y x : ℤ) (n : ℕ) → cellCall k y x ≡ given n → natAbs y < q →
+    (place k n .0 ≡ octant y x) × Holds k (natAbs y) (offset x) (place k n .1)
+unfolding placeAt
+answered-holds k y x n e h = rw (answered k y x n e .at, frame-below k (natAbs y) (offset x) h) (refl, holder-holds k (natAbs y) (offset x))
+
+-- and no other cell of that octant does
+pub answered-alone : (k : ℕ) (y x : ℤ) (n m : ℕ) → cellCall k y x ≡ given n → natAbs y < q →
+    place k m .0 ≡ octant y x → Holds k (natAbs y) (offset x) (place k m .1) → m ≡ n
+answered-alone k y x n m e h o f =
+    let a = answered-holds k y x n e h in
+    let g : place k m .1 ≡ place k n .1 = holds-unique k (natAbs y) (offset x) (place k m .1) (place k n .1) f (a .1) in
+    sym (number-place k m) ∙ ap₂ (λ (o : ℕ) (f : Frame). number k (o, f)) (o ∙ sym (a .0)) g ∙ number-place k n
+
+-- at a pole it is up(N−1,0) of the octant that the longitude names
+pub answered-pole : (k : ℕ) (y x : ℤ) (n : ℕ) → cellCall k y x ≡ given n → natAbs y ≡ q → place k n ≡ (octant y x, up (2 ^ k - 1) 0)
+unfolding placeAt
+answered-pole k y x n e h = answered k y x n e .at ∙ rw (h, frame-pole k (offset x))
+
+-- south is the mirror image of north: the place at −y is that at y, four octants on
+pub place-mirror : (k y : ℕ) (x : ℤ) → placeAt k (negsuc y) x ≡ (placeAt k (pos (suc y)) x .0 + 4, placeAt k (pos (suc y)) x .1)
+unfolding placeAt octant
+place-mirror k y x = refl
+
+number-mirror : (k : ℕ) (p : Place) → number k (p .0 + 4, p .1) ≡ number k p + 4 * 4 ^ k
+unfolding number
+number-mirror k p = rw add-mul (omega arith)
+
+pub south-mirror : (k y : ℕ) (x : ℤ) (n : ℕ) → cellCall k (pos (suc y)) x ≡ given n → cellCall k (negsuc y) x ≡ given (n + 4 * 4 ^ k)
+south-mirror k y x n e =
+    let a = answered k (pos (suc y)) x n e in
+    answers k (negsuc y) x (a .level) (a .latitude) (a .longitude)
+    ∙ ap given (ap (number k) (place-mirror k y x) ∙ number-mirror k (placeAt k (pos (suc y)) x) ∙ ap (λ (i : ℕ). i + 4 * 4 ^ k) (a .numbered))
+
+-- the cell of a position at level k + 1 is a child of its cell at level k, poles included
+pub answered-nested : (k : ℕ) (y x : ℤ) (n : ℕ) → cellCall (suc k) y x ≡ given n → cellCall k y x ≡ given (n / 4)
+answered-nested k y x n e =
+    let a = answered (suc k) y x n e in
+    let h : k ≤ maxLevel = omega (arith, a .level) in
+    answers k y x h (a .latitude) (a .longitude) ∙ ap given (sym (number-nested k y x) ∙ ap (λ (i : ℕ). i / 4) (a .numbered))
+
+-- ---- the centre of a cell
+
+-- at every level that is not refused a row is at least six units of latitude
+level-small : (k : ℕ) → k ≤ maxLevel → 6 * 2 ^ k ≤ q
+level-small k h = omega (arith, pow-mono {i = k} {j = maxLevel} h)
+
+-- a centre's latitude is neither 0 nor a pole
+pub centre-off-equator : (k n : ℕ) (c : ℤ × ℤ) → centreCall k n ≡ given c → (1 ≤ natAbs (c .0)) × (natAbs (c .0) < q)
+centre-off-equator k n c e =
+    let t = accepted k n (centre k (place k n)) c (sym e) in
+    rw (t .1) at (centre-latitude k (place k n) (level-small k (t .0 .level)) (t .0 .occurs))
+
+-- the cell at the centre that a call gives is the number that it was given
+pub return-call : (k n : ℕ) (y x : ℤ) → centreCall k n ≡ given (y, x) → cellCall k y x ≡ given n
+return-call k n y x e =
+    let t = accepted k n (centre k (place k n)) (y, x) (sym e) in
+    let g = t .0 in
+    let hy = centre-off-equator k n (y, x) e .1 in
+    let hx : longitudeOut x ≡ false = rw (ap (λ (c : ℤ × ℤ). c .1) (t .1)) at (centre-longitude k (place k n) (g .occurs) .0) in
+    let r : placeAt k y x ≡ place k n =
+    ap (λ (c : ℤ × ℤ). placeAt k (c .0) (c .1)) (sym (t .1)) ∙ centre-return k (place k n) (level-small k (g .level)) (g .occurs) in
+    answers k y x (g .level) (le-ltb q (natAbs y) (omega arith)) hx ∙ ap given (ap (number k) r ∙ number-place k n)
+
+-- and every number of a level that is not refused has a centre, and returns
+pub centre-returns : (k n : ℕ) → k ≤ maxLevel → n < cells k → (c : ℤ × ℤ) × (centreCall k n ≡ given c) × (cellCall k (c .0) (c .1) ≡ given n)
+centre-returns k n h l =
+    let c = centre k (place k n) in
+    let e = sym (accepts k n c h l) in
+    (c, e, return-call k n (c .0) (c .1) e)

@@ -1,0 +1,30 @@
+-- `place_at` meets its contract: the pole is its own case, as in the definition. Assumes nothing.
+use borrow.Author.Needs.{needs}
+use borrow.Author.Tests.{eq-eqb, ne-eqb}
+use Rattle.position.specs.Position.{q, frameAt}
+use Rattle.position.proofs.place.place_at.Statement.{statement}
+use Rattle.position.proofs.place.place_at.Tie as tie
+
+rows-of-requires : tie.Need-rows-of-requires
+rows-of-requires c κs = search needs
+
+sub-row : tie.Need-sub-row
+sub-row c = search needs
+
+cast-row : tie.Need-cast-row
+cast-row c = search needs
+
+holder-of-requires : tie.Need-holder-of-requires
+holder-of-requires c κs = search needs
+
+returns : tie.Need-returns
+unfolding frameAt
+returns c = rw (eq-eqb (c .before .before .args .p) q (c .before .if1 .taken), c .rows-of .ensures .0)
+
+returns-2 : tie.Need-returns-2
+unfolding frameAt
+returns-2 c = rw (ne-eqb (c .before .before .args .p) q (c .before .if1 .left)) (c .holder-of .ensures)
+
+pub place-at-spec : {M : Type 1} → statement M
+place-at-spec =
+    tie.close (tie.spec rows-of-requires sub-row cast-row holder-of-requires returns returns-2)

@@ -1,0 +1,15 @@
+-- Tests that calls of several crates have, each with its number in document 01's table ("Refused calls").
+use Prim.Native.Nat.{ℕ}
+use mathlib.Core.Bool.{not}
+use mathlib.Core.List.{List}
+use lib.Dec.{ltb, eqb}
+use lib.ListN.{length}
+use Rattle.refusal.specs.Answer.{Test, _when_}
+
+-- 1: the level is above its bound
+abbrev pub badLevel : ℕ → ℕ → Test
+badLevel bound k = 1 when ltb bound k
+
+-- 5: a slice is not of its exact length
+abbrev pub badLength : {A : Type 0} → ℕ → List A → Test
+badLength size s = 5 when not (eqb (length s) size)

@@ -1,0 +1,71 @@
+-- What is said of steps in theorems (document 01, "Steps and codes"): the code back, the direct codes, and a cell's three direct neighbours.
+use Prim.Native.Nat.{ℕ}
+use mathlib.Core.Bool.{Bool, true, false}
+use mathlib.Core.List.{[], _∷_}
+use mathlib.Core.Logic.{_⊎_}
+use mathlib.Core.Option.{Option, none, some}
+use mathlib.Core.Path.{_≡_}
+use lib.ListN.{getD}
+use Rattle.refusal.specs.Answer.{given, refused}
+use Rattle.cell.specs.Cell.{Place, place}
+use Rattle.step.specs.Step.{step, codeTo, stepCall}
+
+-- the code back: t and T are their own, l and r change places, and so do e and w, E and W
+unfoldable pub back : ℕ → ℕ
+back c = getD (0 ∷ 2 ∷ 1 ∷ 4 ∷ 3 ∷ 5 ∷ 7 ∷ 6 ∷ []) c c
+
+-- the direct codes: t, l, r and T, E, W
+unfoldable pub direct : ℕ → Bool
+direct c = getD (true ∷ true ∷ true ∷ false ∷ false ∷ true ∷ true ∷ true ∷ []) c false
+
+-- a place has a direct neighbour along one of them
+abbrev pub Direct : ℕ → Place → Place → Type 0
+Direct k p r = (c : ℕ) × (direct c ≡ true) × (step k p c ≡ some r)
+
+-- whether a code is there and is a direct one
+unfoldable pub directCode : Option ℕ → Bool
+directCode none = false
+directCode (some c) = direct c
+
+-- whether cell m is a direct neighbour of cell n
+unfoldable pub isDirect : ℕ → ℕ → ℕ → Bool
+isDirect k n m = directCode (codeTo k m (place k n))
+
+-- ---- three direct neighbours, of a place
+
+-- exactly one of two steps exists, and it leads to x
+abbrev pub One : Option Place → Option Place → Place → Type 0
+One s s′ x = ((s ≡ some x) × (s′ ≡ none)) ⊎ ((s ≡ none) × (s′ ≡ some x))
+
+-- one by t or T, one by l or W, one by r or E, all different, and no other
+pub record Three (k : ℕ) (p : Place) : Type 0 where
+  pub top : Place
+  pub left : Place
+  pub right : Place
+  pub by-top : One (step k p 0) (step k p 5) top
+  pub by-left : One (step k p 1) (step k p 7) left
+  pub by-right : One (step k p 2) (step k p 6) right
+  pub top-left : ¬ (top ≡ left)
+  pub left-right : ¬ (left ≡ right)
+  pub right-top : ¬ (right ≡ top)
+  pub only : (r : Place) → Direct k p r → (r ≡ top) ⊎ (r ≡ left) ⊎ (r ≡ right)
+
+-- ---- the same of a cell, by the calls
+
+-- exactly one of two steps from cell n is given, to cell m, and the other is refused 7
+abbrev pub OneOf : ℕ → ℕ → ℕ → ℕ → ℕ → Type 0
+OneOf k n c d m =
+    ((stepCall k n c ≡ given m) × (stepCall k n d ≡ refused 7)) ⊎ ((stepCall k n c ≡ refused 7) × (stepCall k n d ≡ given m))
+
+-- the direct neighbours of cell n: one by t or T, one by l or W, one by r or E, three different cells, and no other
+pub record Neighbours (k n : ℕ) : Type 0 where
+  pub top : ℕ
+  pub left : ℕ
+  pub right : ℕ
+  pub by-top : OneOf k n 0 5 top
+  pub by-left : OneOf k n 1 7 left
+  pub by-right : OneOf k n 2 6 right
+  pub top-left : ¬ (top ≡ left)
+  pub left-right : ¬ (left ≡ right)
+  pub right-top : ¬ (right ≡ top)
+  pub only : (c m : ℕ) → direct c ≡ true → stepCall k n c ≡ given m → (m ≡ top) ⊎ (m ≡ left) ⊎ (m ≡ right)

@@ -1,0 +1,40 @@
+-- `append_decimal` meets its contract: the fewest digits that `io::decimal` gives are the number's digits with no zero in front. Assumes nothing.
+use mathlib.Core.Path.{ap, _∙_}
+use native.Mathlib.Omega.{arith}
+use borrow.Author.Needs.{needs}
+use Rattle.text.specs.Text.{appended}
+use Rattle.text.proofs.Laws.{fewest-spelled, few-digits}
+use Rattle.text.proofs.append_decimal.Statement.{statement}
+use Rattle.text.proofs.append_decimal.Tie as tie
+
+decimal-requires : tie.Need-decimal-requires
+decimal-requires c κs = search needs
+
+array-share-prefix-digits : tie.Need-array-share-prefix-digits
+array-share-prefix-digits c = search needs
+
+slice-aggregate-append : tie.Need-slice-aggregate-append
+slice-aggregate-append c = search needs
+
+append-requires : tie.Need-append-requires
+append-requires c κs = search needs
+
+same-length : tie.Need-same-length
+same-length c = search needs
+
+returns : tie.Need-returns
+returns c =
+    let a = c .before .before .before .before .before .before .before .before .args in
+    let d = c .before .before .before .before .before in
+    c .before .before .append .ensures ∙ ap (appended (a .out .now) (a .at)) (d .decimal .ensures .1 .1 ∙ fewest-spelled 20 _ (a .n) (few-digits _ (a .n) (omega arith) (d .decimal .ensures .1 .0)) (d .decimal .ensures .1 .0))
+
+pub append-decimal-spec : {M : Type 1} → statement M
+append-decimal-spec =
+    tie.close
+    (tie.spec
+    decimal-requires
+    array-share-prefix-digits
+    slice-aggregate-append
+    append-requires
+    same-length
+    returns)

@@ -1,0 +1,50 @@
+-- `cube_of` meets its contract: its parts are those of the definition. Assumes nothing.
+use Prim.Native.Nat.{ℕ, _-_, _^_}
+use mathlib.Core.Path.{sym, ap, _∙_}
+use mathlib.Core.Bool.{true, false}
+use native.Mathlib.Omega.{arith}
+use lib.Dec.{leb}
+use borrow.Author.Needs.{needs}
+use Rattle.cell.specs.Cell.{span, frameOf}
+use Rattle.cell.proofs.Laws.{shifted}
+use Rattle.corner.proofs.Octants.{second-first}
+use Rattle.touch.specs.inside.Cube.{sideOf, leftOver, equatorialSides, cubeOf}
+use Rattle.touch.proofs.Cubes.{row-of, col-of}
+use Rattle.touch.proofs.cube.cube_of.Statement.{statement}
+use Rattle.touch.proofs.cube.cube_of.Tie as tie
+
+shl-left-over : tie.Need-shl-left-over
+shl-left-over c = search needs
+
+left-over-requires : tie.Need-left-over-requires
+left-over-requires c κs = rw (shifted 32 (c .args .level) (omega (arith, c .pre .0))) (c .pre .1 .1)
+
+first-side-requires : tie.Need-first-side-requires
+first-side-requires c κs = search needs
+
+add-first-side : tie.Need-add-first-side
+add-first-side c = omega (arith, c .before .before .pre .1 .0)
+
+first-side-requires-2 : tie.Need-first-side-requires-2
+first-side-requires-2 c κs = search needs
+
+returns : tie.Need-returns
+unfolding cubeOf leftOver
+returns c =
+    let h = c .before .before .before .pre in
+    let k = c .before .before .before .args .level in
+    let p = c .before .before .before .args .place in
+    let n = 2 ^ k - span (frameOf (p .kind) (p .row) (p .col)) in
+    let l = rw (shifted 32 k (omega (arith, h .0))) at (c .before .before .left-over .ensures) in
+    let b = sym (col-of (p .kind) (p .row) (p .col)) in
+    let x = (rw l at (c .before .first-side .ensures)) ∙ ap (λ (j : ℕ). equatorialSides (p .octant) n j .0) b in
+    let y = (rw l at (c .first-side2 .ensures))
+    ∙ second-first (sideOf false) (sideOf true) n (p .col) (p .octant)
+    ∙ ap (λ (j : ℕ). equatorialSides (p .octant) n j .1) b in
+    let z = sym (row-of (p .kind) (p .row) (p .col)) in
+    λ i. record { x = x i; y = y i; z = sideOf (leb 4 (p .octant)) (z i) }
+
+pub cube-of-spec : {M : Type 1} → statement M
+cube-of-spec =
+    tie.close
+    (tie.spec shl-left-over left-over-requires first-side-requires add-first-side first-side-requires-2 returns)
