@@ -31,18 +31,35 @@ carried e g = ((λ p. g .0 (sym e ∙ p)), (λ b. e ∙ g .1 b))
 
 -- joined and then grown is grown and then joined
 module _ (k m : ℕ) (a b : List ℕ) where
-  grown-joined : (c : ℕ) → c < cells k → grownCells k m (marked (bytesOf (4 ^ k) (union (marked a) (marked b)))) c ≡ union (marked (bytesOf (4 ^ k) (grownCells k m (marked a)))) (marked (bytesOf (4 ^ k) (grownCells k m (marked b)))) c
+  -- the bytes of both, and of each grown
+  abbrev both-bytes : List ℕ
+  both-bytes = bytesOf (4 ^ k) (union (marked a) (marked b))
+
+  abbrev a-grown : List ℕ
+  a-grown = bytesOf (4 ^ k) (grownCells k m (marked a))
+
+  abbrev b-grown : List ℕ
+  b-grown = bytesOf (4 ^ k) (grownCells k m (marked b))
+
+  grown-joined : (c : ℕ) → c < cells k → grownCells k m (marked both-bytes) c ≡ union (marked a-grown) (marked b-grown) c
   unfolding union
   grown-joined c h =
-      grown-cong (cells k) (touches k) m (marked (bytesOf (4 ^ k) (union (marked a) (marked b)))) (λ d. marked a d || marked b d) (marked-bytesOf (4 ^ k) (λ d. marked a d || marked b d)) c
+      let U : ℕ → Bool = λ d. marked a d || marked b d in
+      grown-cong (cells k) (touches k) m (marked both-bytes) U (marked-bytesOf (4 ^ k) U) c
       ∙ grown-union (cells k) (touches k) m (marked a) (marked b) c
       ∙ ap₂ _||_ (sym (marked-bytesOf (4 ^ k) (grownCells k m (marked a)) c h)) (sym (marked-bytesOf (4 ^ k) (grownCells k m (marked b)) c h))
 
-  joined : (j o w o₁ w₁ o₂ w₂ j′ : List ℕ) → let both = joinCall k a b j .1 in let A = growCall k m a o₁ w₁ in let B = growCall k m b o₂ w₂ in Accepted (joinCall k a b j) → Accepted (growCall k m both o w) → Accepted A → Accepted B → Accepted (joinCall k (written A) (written B) j′) → written (growCall k m both o w) ≡ joinCall k (written A) (written B) j′ .1
+  joined : (j o w o₁ w₁ o₂ w₂ j′ : List ℕ) →
+      let both = joinCall k a b j .1 in
+      let A = growCall k m a o₁ w₁ in
+      let B = growCall k m b o₂ w₂ in
+      Accepted (joinCall k a b j) → Accepted (growCall k m both o w) → Accepted A → Accepted B →
+      Accepted (joinCall k (written A) (written B) j′) →
+      written (growCall k m both o w) ≡ joinCall k (written A) (written B) j′ .1
   joined j o w o₁ w₁ o₂ w₂ j′ J G A B K =
       grown-bytes k m (joinCall k a b j .1) o w G
       ∙ ap (λ (l : List ℕ). bytesOf (4 ^ k) (grownCells k m (marked l))) (joined-bytes k a b j J)
-      ∙ bytesOf-cong (4 ^ k) (grownCells k m (marked (bytesOf (4 ^ k) (union (marked a) (marked b))))) (union (marked (bytesOf (4 ^ k) (grownCells k m (marked a)))) (marked (bytesOf (4 ^ k) (grownCells k m (marked b))))) grown-joined
+      ∙ bytesOf-cong (4 ^ k) (grownCells k m (marked both-bytes)) (union (marked a-grown) (marked b-grown)) grown-joined
       ∙ sym (ap₂ (λ (x y : List ℕ). bytesOf (4 ^ k) (union (marked x) (marked y))) (grown-bytes k m a o₁ w₁ A) (grown-bytes k m b o₂ w₂ B))
       ∙ sym (joined-bytes k (growCall k m a o₁ w₁ .1 .0) (growCall k m b o₂ w₂ .1 .0) j′ K)
 
@@ -76,7 +93,8 @@ module _ (k m : ℕ) (a b o w o′ w′ : List ℕ) (G : Accepted (growCall k m 
   unfolding g
   grown-in =
       let A = ready k m a o w (sym G) in
-      within-exactly k g b (A .level) (ap length (grown-bytes k m a o w G) ∙ length-bytesOf (4 ^ k) (grownCells k m (marked a))) (ready k m b o′ w′ (sym S) .read)
+      let long = ap length (grown-bytes k m a o w G) ∙ length-bytesOf (4 ^ k) (grownCells k m (marked a)) in
+      within-exactly k g b (A .level) long (ready k m b o′ w′ (sym S) .read)
 
   in-shrunk : (withinCall k a s ≡ given within) ↔ ((c : ℕ) → c < cells k → marked a c ≡ true → marked s c ≡ true)
   unfolding s
@@ -98,14 +116,21 @@ empty-list a = (refl, refl)
 pub demand-3 : Demand3
 demand-3 = record {
   grown = λ k m a out work A c h. carried (marked-is k (grownCells k m (marked a)) _ (grown-bytes k m a out work A) c h) (grown-exactly k m (marked a) c h);
-  shrunk = λ k m a out work A c h. carried (marked-is k (shrunkCells k m (marked a)) _ (shrunk-bytes k m a out work A) c h) (shrunk-exactly k m (marked a) c h);
-  list = λ k a m gs c h. carried (marked-is k (grownCells k (ringsOf gs a) (marked a)) _ (growings k a gs m) c h) (grown-exactly k (ringsOf gs a) (marked a) c h);
+  shrunk = λ k m a out work A c h.
+      carried (marked-is k (shrunkCells k m (marked a)) _ (shrunk-bytes k m a out work A) c h) (shrunk-exactly k m (marked a) c h);
+  list = λ k a m gs c h.
+      carried (marked-is k (grownCells k (ringsOf gs a) (marked a)) _ (growings k a gs m) c h) (grown-exactly k (ringsOf gs a) (marked a) c h);
   list-once = λ k a m gs out work A. growings k a gs m ∙ sym (grown-bytes k (ringsOf gs a) a out work A);
   list-empty = empty-list;
   joined = joined;
   grown-within = grown-within;
-  zero-rings = λ k a out work m A. grown-bytes k 0 a out work A ∙ bytesOf-cong (4 ^ k) (grownCells k 0 (marked a)) (marked a) (grown-zero (cells k) (touches k) (marked a)) ∙ bytesOf-marked (4 ^ k) a (m .0) (m .1);
-  only-adds = λ k m a out work A c h p. marked-is k (grownCells k m (marked a)) _ (grown-bytes k m a out work A) c h ∙ grown-adds (cells k) (touches k) m (marked a) c h p;
+  zero-rings = λ k a out work m A.
+      grown-bytes k 0 a out work A
+      ∙ bytesOf-cong (4 ^ k) (grownCells k 0 (marked a)) (marked a) (grown-zero (cells k) (touches k) (marked a))
+      ∙ bytesOf-marked (4 ^ k) a (m .0) (m .1);
+  only-adds = λ k m a out work A c h p.
+      marked-is k (grownCells k m (marked a)) _ (grown-bytes k m a out work A) c h
+      ∙ grown-adds (cells k) (touches k) m (marked a) c h p;
   both-ways = both-ways;
   itself = itself;
 }

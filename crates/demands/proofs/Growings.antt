@@ -38,7 +38,8 @@ module _ (k : ℕ) (a : List ℕ) where
   -- one growing more
   grown-again : (s m : ℕ) (b : List ℕ) → Grown k a s b → Grown k a (s + m) (bytesOf (4 ^ k) (grownCells k m (marked b)))
   grown-again s m b e = bytesOf-cong (4 ^ k) (grownCells k m (marked b)) (grownCells k (s + m) (marked a)) (λ c h.
-      grown-cong (cells k) (touches k) m (marked b) (grownCells k s (marked a)) (λ d l. ap (λ (x : List ℕ). marked x d) e ∙ marked-bytesOf (4 ^ k) (grownCells k s (marked a)) d l) c
+      let S = grownCells k s (marked a) in
+      grown-cong (cells k) (touches k) m (marked b) S (λ d l. ap (λ (x : List ℕ). marked x d) e ∙ marked-bytesOf (4 ^ k) S d l) c
       ∙ grown-grown (cells k) (touches k) m s (marked a) c
       ∙ ap (λ (n : ℕ). grownCells k n (marked a) c) (add-comm m s))
 
@@ -68,7 +69,8 @@ module _ (k : ℕ) (a : List ℕ) where
   many [] s b e = rw add-zero e
   many (g ∷ gs) s b e =
       let n = ringsAdded (growing g b .0) (g .rings) in
-      subst (λ (i : ℕ). Grown k a i (after gs (afterOne g b))) (add-assoc s n (ringsOf gs (afterOne g b))) (many gs (s + n) (afterOne g b) (one-growing g s b e))
+      let next = afterOne g b in
+      subst (λ (i : ℕ). Grown k a i (after gs next)) (add-assoc s n (ringsOf gs next)) (many gs (s + n) next (one-growing g s b e))
 
   -- after any list of growings the mask is A grown by the sum of the accepted ring counts
   pub growings : (gs : List Growing) → Mask k a → after gs a ≡ bytesOf (4 ^ k) (grownCells k (ringsOf gs a) (marked a))

@@ -37,18 +37,24 @@ ready k a o out e =
     }
 
 -- a call that its tests refuse leaves the slice
-pub fill-refused : (k : ℕ) (a : List ℕ) (o : ℕ) (out : List ℕ) (r : FillAnswer) (n : ℕ) → r ≡ fill-answer.Refused n → saidFill r ≡ inOrder (fillTests k a o out) done → (refused n, out) ≡ fillCall k a o out
+pub fill-refused : (k : ℕ) (a : List ℕ) (o : ℕ) (out : List ℕ) (r : FillAnswer) (n : ℕ) → r ≡ fill-answer.Refused n →
+    saidFill r ≡ inOrder (fillTests k a o out) done → (refused n, out) ≡ fillCall k a o out
 fill-refused k a o out r n e h = lent-refused (inOrder (fillTests k a o out) done) out _ n (sym (ap saidFill e) ∙ h)
 
 -- and any other writes what can't be reached
-pub fill-done : (k : ℕ) (a : List ℕ) (o : ℕ) (out reached l : List ℕ) → given done ≡ inOrder (fillTests k a o out) done → reached ≡ bytesOf (4 ^ k) (reachable k (marked a) o) → l ≡ bytesOf (length reached) (outside (marked reached)) → (given done, l) ≡ fillCall k a o out
+pub fill-done : (k : ℕ) (a : List ℕ) (o : ℕ) (out reached l : List ℕ) → given done ≡ inOrder (fillTests k a o out) done →
+    reached ≡ bytesOf (4 ^ k) (reachable k (marked a) o) → l ≡ bytesOf (length reached) (outside (marked reached)) →
+    (given done, l) ≡ fillCall k a o out
 unfolding outside
 fill-done k a o out reached l h e f =
-    let n = ap length e ∙ length-bytesOf (4 ^ k) (reachable k (marked a) o) in
-    let same = bytesOf-cong (4 ^ k) (outside (marked reached)) (outside (reachable k (marked a) o)) (λ c u. ap (λ (x : List ℕ). not (marked x c)) e ∙ ap not (marked-bytesOf (4 ^ k) (reachable k (marked a) o) c u)) in
+    let R = reachable k (marked a) o in
+    let n = ap length e ∙ length-bytesOf (4 ^ k) R in
+    let same = bytesOf-cong (4 ^ k) (outside (marked reached)) (outside R) (λ c u.
+    ap (λ (x : List ℕ). not (marked x c)) e ∙ ap not (marked-bytesOf (4 ^ k) R c u)) in
     ap (λ (x : List ℕ). (given done, x)) (f ∙ ap (λ (i : ℕ). bytesOf i (outside (marked reached))) n ∙ same)
-    ∙ lent-given (inOrder (fillTests k a o out) done) out (bytesOf (4 ^ k) (outside (reachable k (marked a) o))) done h
+    ∙ lent-given (inOrder (fillTests k a o out) done) out (bytesOf (4 ^ k) (outside R)) done h
 
 -- what it writes where it is not refused
-pub filled-bytes : (k : ℕ) (a : List ℕ) (o : ℕ) (out : List ℕ) → fillCall k a o out .0 ≡ given done → fillCall k a o out .1 ≡ bytesOf (4 ^ k) (outside (reachable k (marked a) o))
+pub filled-bytes : (k : ℕ) (a : List ℕ) (o : ℕ) (out : List ℕ) → fillCall k a o out .0 ≡ given done →
+    fillCall k a o out .1 ≡ bytesOf (4 ^ k) (outside (reachable k (marked a) o))
 filled-bytes k a o out e = rw e

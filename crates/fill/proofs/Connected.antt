@@ -39,18 +39,26 @@ module _ (k : ℕ) (A : ℕ → Bool) (empty : (c : ℕ) → c < cells k → A c
   onward {p} {r} {c} h m j =
       let s = move-step k m in
       let o = step-occurs k p c r (j .occurs) s in
-      let code : codeTo k (number k r) (place k (number k p)) ≡ some c = rw (place-number k p (j .occurs)) (code-step k (number k r) p c (j .occurs) .1 (rw (place-number k r o) s)) in
-      let opened = both (isDirect k (number k p) (number k r)) (not (A (number k r))) (ap directCode code ∙ h) (ap not (empty (number k r) (number-below k r o))) in
+      let x = number k p in
+      let y = number k r in
+      let hs = number-below k start first in
+      let hx = number-below k p (j .occurs) in
+      let hy = number-below k r o in
+      let there = code-step k y p c (j .occurs) .1 (rw (place-number k r o) s) in
+      let code : codeTo k y (place k x) ≡ some c = rw (place-number k p (j .occurs)) there in
+      let opened = both (isDirect k x y) (not (A y)) (ap directCode code ∙ h) (ap not (empty y hy)) in
       record {
         occurs = o;
-        reached = reachable-step k A (number k start) (number k p) (number k r) (number-below k start first) (number-below k p (j .occurs)) (number-below k r o) (j .reached) opened;
+        reached = reachable-step k A (number k start) x y hs hx hy (j .reached) opened;
       }
 
   -- in an octant: along a row, and up the west edge
   column : (o a b : ℕ) → Joined (o, up a 0) → a + b + 1 ≤ 2 ^ k → Joined (o, up a b)
   unfolding span direct
   column o a zero j h = j
-  column o a (suc b) j h = onward {c = 2} refl (stay (down-r refl) (omega arith)) (onward {c = 2} refl (stay up-r (omega arith)) (column o a b j (omega arith)))
+  column o a (suc b) j h =
+      let turned = onward {c = 2} refl (stay up-r (omega arith)) (column o a b j (omega arith)) in
+      onward {c = 2} refl (stay (down-r refl) (omega arith)) turned
 
   row : (o a : ℕ) → Joined (o, up 0 0) → a + 1 ≤ 2 ^ k → Joined (o, up a 0)
   unfolding span direct
@@ -92,7 +100,8 @@ module _ (k : ℕ) (A : ℕ → Bool) (empty : (c : ℕ) → c < cells k → A c
   pub connected : (o c : ℕ) → o < cells k → c < cells k → reachable k A o c ≡ true
   connected o c ho hc =
       let s = number-below k start first in
-      reachable-trans k A o (number k start) c ho hc (reachable-back k A (number k start) o s ho (empty (number k start) s) (from-start o ho)) (from-start c hc)
+      let back = reachable-back k A (number k start) o s ho (empty (number k start) s) (from-start o ho) in
+      reachable-trans k A o (number k start) c ho hc back (from-start c hc)
 
 -- filling with an empty border marks nothing
 pub fill-empty : (k : ℕ) (a : List ℕ) (o : ℕ) (out : List ℕ) → fillCall k a o out .0 ≡ given done →

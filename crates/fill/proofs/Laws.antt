@@ -71,7 +71,9 @@ module _ (k : ℕ) (A : ℕ → Bool) where
   unfolding Stepwise
   stepwise-reaches zero c d h e = reach-zero (cells k) R c d ∙ eq-eqb c d e
   stepwise-reaches (suc m) c d h (inl r) = reach-stay (cells k) R m c d (stepwise-reaches m c d h r)
-  stepwise-reaches (suc m) c d h (inr w) = reach-step (cells k) R m c (w .0) d (stepwise-below m c (w .0) h (w .1)) (stepwise-reaches m c (w .0) h (w .1)) (w .2)
+  stepwise-reaches (suc m) c d h (inr w) =
+      let e = w .0 in
+      reach-step (cells k) R m c e d (stepwise-below m c e h (w .1)) (stepwise-reaches m c e h (w .1)) (w .2)
 
   reaches-stepwise : (m c d : ℕ) → reaches (cells k) R m c d ≡ true → Stepwise R m c d
   unfolding Stepwise
@@ -156,7 +158,9 @@ module _ (k : ℕ) (a : List ℕ) (o : ℕ) (out : List ℕ) (accepted : fillCal
 
   -- the border is in the fill, and the outside cell is not
   pub border-filled : (c : ℕ) → c < cells k → marked a c ≡ true → marked (fillCall k a o out .1) c ≡ true
-  border-filled c h p = fill-exactly c h .1 (λ w. clash p (reachable-unmarked k (marked a) o c (r .unmarked) (reachable-exactly k (marked a) o c (r .cell) h .1 w)))
+  border-filled c h p = fill-exactly c h .1 (λ w.
+      let there = reachable-exactly k (marked a) o c (r .cell) h .1 w in
+      clash p (reachable-unmarked k (marked a) o c (r .unmarked) there))
 
   pub outside-not-filled : marked (fillCall k a o out .1) o ≡ false
   outside-not-filled = fill-marks o (r .cell) ∙ ap not (reachable-self k (marked a) o)
@@ -203,12 +207,15 @@ module _ (k : ℕ) (a : List ℕ) (o : ℕ) (out out′ : List ℕ) (first : fil
       let there = closure (cells k) (openStep k (marked a)) o (s .cell) (suc m) c h p in
       let unfilled : marked f c ≡ false = fill-marks k a o out first c h ∙ ap not there in
       let direct = step-direct k (marked a) (w .0) c (w .3) in
-      reachable-step k (marked f) o (w .0) c (s .cell) (w .1) h (kept m (w .0) (w .1) (w .2)) (both (isDirect k (w .0) c) (not (marked f c)) direct (ap not unfilled)))
+      let opened = both (isDirect k (w .0) c) (not (marked f c)) direct (ap not unfilled) in
+      reachable-step k (marked f) o (w .0) c (s .cell) (w .1) h (kept m (w .0) (w .1) (w .2)) opened)
       (reach-out (cells k) (openStep k (marked a)) m o c p)
 
   pub fill-again : fillCall k f o out′ .0 ≡ given done → fillCall k f o out′ .1 ≡ f
   unfolding reachable
   fill-again second = sym (same-fill k a f o o out out′ first second (λ c h. (
     (λ q. kept (cells k) c h q),
-    (λ q. not-false (reachable k (marked a) o c) (sym (fill-marks k a o out first c h) ∙ reachable-unmarked k (marked f) o c (outside-not-filled k a o out first) q)),
+    (λ q.
+        let unfilled = reachable-unmarked k (marked f) o c (outside-not-filled k a o out first) q in
+        not-false (reachable k (marked a) o c) (sym (fill-marks k a o out first c h) ∙ unfilled)),
   )))

@@ -23,9 +23,13 @@ already false true f = f refl
 already false false f = refl
 
 module _ (k : ℕ) (border : List ℕ) where
-  pub opened-none : (A : ℕ → Bool) (out : List ℕ) (low : ℕ) → ((c : ℕ) → c < cells k → marked border c ≡ false → A c ≡ true → marked out c ≡ true) → Opened k A border out out low low
+  pub opened-none : (A : ℕ → Bool) (out : List ℕ) (low : ℕ) →
+      ((c : ℕ) → c < cells k → marked border c ≡ false → A c ≡ true → marked out c ≡ true) →
+      Opened k A border out out low low
   opened-none A out low f = record {
-    marks = λ c h. already (marked out c) (not (marked border c) && A c) (λ p. let q = parts (not (marked border c)) (A c) p in f c h (not-true (marked border c) (q .0)) (q .1));
+    marks = λ c h. already (marked out c) (not (marked border c) && A c) (λ p.
+        let q = parts (not (marked border c)) (A c) p in
+        f c h (not-true (marked border c) (q .0)) (q .1));
     below = λ c h. refl;
     lower = le-refl low;
   }
@@ -54,14 +58,19 @@ module _ (k : ℕ) (border : List ℕ) where
   in-two false true x y = refl
   in-two false false x y = refl
 
-  pub opened-join : (A B : ℕ → Bool) (o₀ o₁ o₂ : List ℕ) (l₀ l₁ l₂ : ℕ) → Opened k A border o₀ o₁ l₀ l₁ → Opened k B border o₁ o₂ l₁ l₂ → Opened k (λ c. A c || B c) border o₀ o₂ l₀ l₂
+  pub opened-join : (A B : ℕ → Bool) (o₀ o₁ o₂ : List ℕ) (l₀ l₁ l₂ : ℕ) →
+      Opened k A border o₀ o₁ l₀ l₁ → Opened k B border o₁ o₂ l₁ l₂ → Opened k (λ c. A c || B c) border o₀ o₂ l₀ l₂
   opened-join A B o₀ o₁ o₂ l₀ l₁ l₂ p q = record {
-    marks = λ c h. q .marks c h ∙ ap (λ (b : Bool). b || (not (marked border c) && B c)) (p .marks c h) ∙ in-two (marked o₀ c) (not (marked border c)) (A c) (B c);
+    marks = λ c h.
+        q .marks c h
+        ∙ ap (λ (b : Bool). b || (not (marked border c) && B c)) (p .marks c h)
+        ∙ in-two (marked o₀ c) (not (marked border c)) (A c) (B c);
     below = λ c h. q .below c h ∙ p .below c (omega (arith, q .lower));
     lower = le-trans (q .lower) (p .lower);
   }
 
-  pub opened-same : (A B : ℕ → Bool) (o₀ o₁ : List ℕ) (l₀ l₁ : ℕ) → ((c : ℕ) → c < cells k → A c ≡ B c) → Opened k A border o₀ o₁ l₀ l₁ → Opened k B border o₀ o₁ l₀ l₁
+  pub opened-same : (A B : ℕ → Bool) (o₀ o₁ : List ℕ) (l₀ l₁ : ℕ) → ((c : ℕ) → c < cells k → A c ≡ B c) →
+      Opened k A border o₀ o₁ l₀ l₁ → Opened k B border o₀ o₁ l₀ l₁
   opened-same A B o₀ o₁ l₀ l₁ f p = record {
     marks = λ c h. p .marks c h ∙ ap (λ (b : Bool). marked o₀ c || (not (marked border c) && b)) (f c h);
     below = p .below;
@@ -73,14 +82,17 @@ module _ (k : ℕ) (border : List ℕ) where
   unfolding alongBelow anyBelow
   opened-start cell out low = opened-none (λ c. false) out low (λ c h p q. clash q refl)
 
-  pub opened-code : (cell code : ℕ) (o₀ o₁ o₂ : List ℕ) (l₀ l₁ l₂ : ℕ) → Opened k (alongBelow k cell code) border o₀ o₁ l₀ l₁ → Opened k (along k cell code) border o₁ o₂ l₁ l₂ → Opened k (alongBelow k cell (code + 1)) border o₀ o₂ l₀ l₂
+  pub opened-code : (cell code : ℕ) (o₀ o₁ o₂ : List ℕ) (l₀ l₁ l₂ : ℕ) →
+      Opened k (alongBelow k cell code) border o₀ o₁ l₀ l₁ → Opened k (along k cell code) border o₁ o₂ l₁ l₂ →
+      Opened k (alongBelow k cell (code + 1)) border o₀ o₂ l₀ l₂
   unfolding alongBelow anyBelow
   opened-code cell code o₀ o₁ o₂ l₀ l₁ l₂ p q = rw add-one (opened-join (alongBelow k cell code) (along k cell code) o₀ o₁ o₂ l₀ l₁ l₂ p q)
 
 -- ---- cells that are passed
 
 -- a byte of which nothing waits
-pub passed-byte : (k : ℕ) (out seen : List ℕ) (cell : ℕ) → cell % 8 ≡ 0 → cell < cells k → getD out (cell / 8) 0 ≡ getD seen (cell / 8) 0 → Passed k out seen out seen cell (cell + 8)
+pub passed-byte : (k : ℕ) (out seen : List ℕ) (cell : ℕ) →
+    cell % 8 ≡ 0 → cell < cells k → getD out (cell / 8) 0 ≡ getD seen (cell / 8) 0 → Passed k out seen out seen cell (cell + 8)
 unfolding marked
 passed-byte k out seen cell z h e = record {
   out-stays = refl;
@@ -93,7 +105,8 @@ passed-byte k out seen cell z h e = record {
 }
 
 -- a cell that does not wait
-pub passed-one : (k : ℕ) (out seen : List ℕ) (cell : ℕ) → cell < cells k → (marked out cell ≡ true → marked seen cell ≡ true) → Passed k out seen out seen cell (cell + 1)
+pub passed-one : (k : ℕ) (out seen : List ℕ) (cell : ℕ) → cell < cells k → (marked out cell ≡ true → marked seen cell ≡ true) →
+    Passed k out seen out seen cell (cell + 1)
 passed-one k out seen cell h f = record {
   out-stays = refl;
   seen-stays = refl;

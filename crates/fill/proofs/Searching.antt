@@ -34,7 +34,9 @@ module _ (k o : ℕ) (border : List ℕ) (ho : o < cells k) where
   unfolding reachable
   search-start out seen f g = record {
     start = f o ∙ eq-eqb o o refl;
-    sound = λ c h p. subst (λ (i : ℕ). reaches (cells k) (openStep k (marked border)) (cells k) o i ≡ true) (eqb-true o c (sym (f c) ∙ p)) (reach-self (cells k) (openStep k (marked border)) (cells k) o);
+    sound = λ c h p.
+        let R = openStep k (marked border) in
+        subst (λ (i : ℕ). reaches (cells k) R (cells k) o i ≡ true) (eqb-true o c (sym (f c) ∙ p)) (reach-self (cells k) R (cells k) o);
     closed = λ c d h l p q. clash p (g c);
     below = λ c l u. absurd (omega arith);
     limit = omega arith;
@@ -49,7 +51,8 @@ module _ (k o : ℕ) (border : List ℕ) (ho : o < cells k) where
       go false e = inr (leb-false cell c e)
 
   -- cells are passed
-  pub search-passed : (out seen out′ seen′ : List ℕ) (cell next : ℕ) → Search k o border out seen cell → Passed k out seen out′ seen′ cell next → Search k o border out′ seen′ next
+  pub search-passed : (out seen out′ seen′ : List ℕ) (cell next : ℕ) →
+      Search k o border out seen cell → Passed k out seen out′ seen′ cell next → Search k o border out′ seen′ next
   search-passed out seen out′ seen′ cell next s p = rw (p .out-stays, p .seen-stays) (record {
     start = s .start;
     sound = s .sound;
@@ -59,7 +62,8 @@ module _ (k o : ℕ) (border : List ℕ) (ho : o < cells k) where
   })
 
   -- one that waits is seen
-  module _ (out seen out′ seen′ : List ℕ) (cell next : ℕ) (hc : cell < cells k) (room : cells k ≤ 8 * length seen) (s : Search k o border out seen cell) (v : Seen k border out seen out′ seen′ cell next) where
+  module _ (out seen out′ seen′ : List ℕ) (cell next : ℕ) (hc : cell < cells k) (room : cells k ≤ 8 * length seen)
+      (s : Search k o border out seen cell) (v : Seen k border out seen out′ seen′ cell next) where
     noted : (c : ℕ) → marked seen′ c ≡ (marked seen c || eqb cell c)
     noted c = ap (λ (l : List ℕ). marked l c) (v .noted) ∙ marked-marking seen cell c (le-trans hc room)
 
@@ -73,19 +77,25 @@ module _ (k o : ℕ) (border : List ℕ) (ho : o < cells k) where
     unfolding openStep
     new d h p =
         let q = parts (isDirect k cell d) (not (marked border d)) p in
-        v .opened .marks d h ∙ right (marked out d) (not (marked border d) && isDirect k cell d) (both (not (marked border d)) (isDirect k cell d) (q .1) (q .0))
+        let near = both (not (marked border d)) (isDirect k cell d) (q .1) (q .0) in
+        v .opened .marks d h ∙ right (marked out d) (not (marked border d) && isDirect k cell d) near
 
     new-sound : (c : ℕ) → c < cells k → (not (marked border c) && isDirect k cell c) ≡ true → reachable k (marked border) o c ≡ true
     unfolding reachable openStep
     new-sound c h p =
         let q = parts (not (marked border c)) (isDirect k cell c) p in
         let R = openStep k (marked border) in
-        closure (cells k) R o ho (suc (cells k)) c h (reach-step (cells k) R (cells k) o cell c hc (s .sound cell hc (v .reached)) (both (isDirect k cell c) (not (marked border c)) (q .1) (q .0)))
+        let near = both (isDirect k cell c) (not (marked border c)) (q .1) (q .0) in
+        let there = reach-step (cells k) R (cells k) o cell c hc (s .sound cell hc (v .reached)) near in
+        closure (cells k) R o ho (suc (cells k)) c h there
 
     pub search-seen : Search k o border out′ seen′ next
     search-seen = record {
       start = stays o ho (s .start);
-      sound = λ c h p. ⊎-elim (s .sound c h) (new-sound c h) (cases (marked out c) (not (marked border c) && isDirect k cell c) (sym (v .opened .marks c h) ∙ p));
+      sound = λ c h p. ⊎-elim
+          (s .sound c h)
+          (new-sound c h)
+          (cases (marked out c) (not (marked border c) && isDirect k cell c) (sym (v .opened .marks c h) ∙ p));
       closed = λ c d h l p q. ⊎-elim
           (λ (m : marked seen c ≡ true). stays d l (s .closed c d h l m q))
           (λ (e : eqb cell c ≡ true). new d l (subst (λ (i : ℕ). openStep k (marked border) i d ≡ true) (sym (eqb-true cell c e)) q))
@@ -101,20 +111,28 @@ module _ (k o : ℕ) (border : List ℕ) (ho : o < cells k) where
     }
 
     pub more-seen : size (cells k) (marked seen) < size (cells k) (marked seen′)
-    more-seen = size-less (marked seen) (marked seen′) (cells k) (λ c h p. seen-stays c p) cell hc (v .waited) (noted cell ∙ right (marked seen cell) (eqb cell cell) (eq-eqb cell cell refl))
+    more-seen =
+        let now-seen = noted cell ∙ right (marked seen cell) (eqb cell cell) (eq-eqb cell cell refl) in
+        size-less (marked seen) (marked seen′) (cells k) (λ c h p. seen-stays c p) cell hc (v .waited) now-seen
 
   -- where none waits, exactly what can be reached is
   module _ (out seen : List ℕ) (s : Search k o border out seen (cells k)) where
-    complete : (m c : ℕ) → c < cells k → reaches (cells k) (openStep k (marked border)) m o c ≡ true → marked out c ≡ true
-    complete zero c h p = subst (λ (i : ℕ). marked out i ≡ true) (eqb-true o c (sym (reach-zero (cells k) (openStep k (marked border)) o c) ∙ p)) (s .start)
+    abbrev R : ℕ → ℕ → Bool
+    R = openStep k (marked border)
+
+    complete : (m c : ℕ) → c < cells k → reaches (cells k) R m o c ≡ true → marked out c ≡ true
+    complete zero c h p = subst (λ (i : ℕ). marked out i ≡ true) (eqb-true o c (sym (reach-zero (cells k) R o c) ∙ p)) (s .start)
     complete (suc m) c h p = ⊎-elim
         (complete m c h)
-        (λ (w : (e : ℕ) × (e < cells k) × (reaches (cells k) (openStep k (marked border)) m o e ≡ true) × (openStep k (marked border) e c ≡ true)). s .closed (w .0) c (w .1) h (s .below (w .0) (omega arith) (w .1) (complete m (w .0) (w .1) (w .2))) (w .3))
-        (reach-out (cells k) (openStep k (marked border)) m o c p)
+        (λ (w : (e : ℕ) × (e < cells k) × (reaches (cells k) R m o e ≡ true) × (R e c ≡ true)).
+        s .closed (w .0) c (w .1) h (s .below (w .0) (omega arith) (w .1) (complete m (w .0) (w .1) (w .2))) (w .3))
+        (reach-out (cells k) R m o c p)
 
     pub search-ends : length out ≡ 4 ^ k → Bytes out → out ≡ bytesOf (4 ^ k) (reachable k (marked border) o)
     unfolding reachable
-    search-ends l b = settled (4 ^ k) out (reachable k (marked border) o) l b (λ c h. same-test (marked out c) (reachable k (marked border) o c) (s .sound c h) (complete (cells k) c h))
+    search-ends l b =
+        settled (4 ^ k) out (reachable k (marked border) o) l b
+        (λ c h. same-test (marked out c) (reachable k (marked border) o c) (s .sound c h) (complete (cells k) c h))
 
 -- ---- the measure: the cells not yet seen, and within them the cells to visit
 
@@ -125,7 +143,8 @@ pub passed-less : (k : ℕ) (out seen out′ seen′ : List ℕ) (cell next : �
 unfolding waiting
 passed-less k out seen out′ seen′ cell next p = rw (p .seen-stays) (omega (arith, p .on, p .far))
 
-pub seen-less : (k : ℕ) (seen seen′ : List ℕ) (cell next : ℕ) → size (cells k) (marked seen) < size (cells k) (marked seen′) → waiting k seen′ next < waiting k seen cell
+pub seen-less : (k : ℕ) (seen seen′ : List ℕ) (cell next : ℕ) → size (cells k) (marked seen) < size (cells k) (marked seen′) →
+    waiting k seen′ next < waiting k seen cell
 unfolding waiting
 seen-less k seen seen′ cell next h =
     let M = cells k in
@@ -143,7 +162,8 @@ marking-long s c = go (marked s c)
     go true = refl
     go false = length-set s (c / 8) (getD s (c / 8) 0 + 2 ^ (c % 8))
 
-module _ (k o : ℕ) (border out seen out′ seen′ : List ℕ) (cell next : ℕ) (visited : Passed k out seen out′ seen′ cell next ⊎ Seen k border out seen out′ seen′ cell next) where
+module _ (k o : ℕ) (border out seen out′ seen′ : List ℕ) (cell next : ℕ)
+    (visited : Passed k out seen out′ seen′ cell next ⊎ Seen k border out seen out′ seen′ cell next) where
   pub visited-long : length seen′ ≡ length seen
   visited-long = ⊎-elim
       (λ (p : Passed k out seen out′ seen′ cell next). ap length (p .seen-stays))
@@ -160,5 +180,6 @@ module _ (k o : ℕ) (border out seen out′ seen′ : List ℕ) (cell next : �
     pub less-left : waiting k seen′ next < waiting k seen cell
     less-left = ⊎-elim
         (passed-less k out seen out′ seen′ cell next)
-        (λ (v : Seen k border out seen out′ seen′ cell next). seen-less k seen seen′ cell next (more-seen k o border ho out seen out′ seen′ cell next hc room s v))
+        (λ (v : Seen k border out seen out′ seen′ cell next).
+        seen-less k seen seen′ cell next (more-seen k o border ho out seen out′ seen′ cell next hc room s v))
         visited

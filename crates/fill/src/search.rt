@@ -87,7 +87,8 @@ fn visit(
     seen: &mut [u8; 65536],
 ) -> CellNumber
     requires { ⌜ (level ≤ maxMaskLevel) × (length (now out) ≡ 4 ^ level) × (cell < cells level) ⌝ }
-    ensures { λ r. ⌜ Passed level (now (out .entry)) (now (seen .entry)) (now (out .exit)) (now (seen .exit)) cell r ⊎ Seen level (now (border .entry)) (now (out .entry)) (now (seen .entry)) (now (out .exit)) (now (seen .exit)) cell r ⌝ }
+    ensures { λ r. ⌜ Passed level (now (out .entry)) (now (seen .entry)) (now (out .exit)) (now (seen .exit)) cell r
+        ⊎ Seen level (now (border .entry)) (now (out .entry)) (now (seen .entry)) (now (out .exit)) (now (seen .exit)) cell r ⌝ }
 {
     let at = (cell / 8) as usize;
     if cell % 8 == 0 {

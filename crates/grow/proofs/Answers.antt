@@ -34,17 +34,22 @@ ready k m a out work e =
     }
 
 -- a call that its tests refuse leaves both slices
-pub rings-refused : (k m : ℕ) (a out work : List ℕ) (after : List ℕ × List ℕ) (r : RingsAnswer) (n : ℕ) → r ≡ rings-answer.Refused n → saidRings r ≡ inOrder (ringTests k m a out work) done → (refused n, (out, work)) ≡ lending {S = List ℕ × List ℕ} (inOrder (ringTests k m a out work) done) (out, work) after
+pub rings-refused : (k m : ℕ) (a out work : List ℕ) (after : List ℕ × List ℕ) (r : RingsAnswer) (n : ℕ) →
+    r ≡ rings-answer.Refused n → saidRings r ≡ inOrder (ringTests k m a out work) done →
+    (refused n, (out, work)) ≡ lending {S = List ℕ × List ℕ} (inOrder (ringTests k m a out work) done) (out, work) after
 rings-refused k m a out work after r n e h = lent-refused (inOrder (ringTests k m a out work) done) (out, work) after n (sym (ap saidRings e) ∙ h)
 
 -- and any other writes them
-pub rings-done : (k m : ℕ) (a out work o w o′ w′ : List ℕ) → given done ≡ inOrder (ringTests k m a out work) done → o ≡ o′ → w ≡ w′ → (given done, (o, w)) ≡ lending {S = List ℕ × List ℕ} (inOrder (ringTests k m a out work) done) (out, work) (o′, w′)
+pub rings-done : (k m : ℕ) (a out work o w o′ w′ : List ℕ) → given done ≡ inOrder (ringTests k m a out work) done → o ≡ o′ → w ≡ w′ →
+    (given done, (o, w)) ≡ lending {S = List ℕ × List ℕ} (inOrder (ringTests k m a out work) done) (out, work) (o′, w′)
 rings-done k m a out work o w o′ w′ h p q =
     ap₂ (λ (x y : List ℕ). (given done, (x, y))) p q ∙ lent-given (inOrder (ringTests k m a out work) done) (out, work) (o′, w′) done h
 
 -- what the two calls write where they are not refused
-pub grown-bytes : (k m : ℕ) (a out work : List ℕ) → growCall k m a out work .0 ≡ given done → growCall k m a out work .1 .0 ≡ bytesOf (4 ^ k) (grownCells k m (marked a))
+pub grown-bytes : (k m : ℕ) (a out work : List ℕ) → growCall k m a out work .0 ≡ given done →
+    growCall k m a out work .1 .0 ≡ bytesOf (4 ^ k) (grownCells k m (marked a))
 grown-bytes k m a out work e = rw e
 
-pub shrunk-bytes : (k m : ℕ) (a out work : List ℕ) → shrinkCall k m a out work .0 ≡ given done → shrinkCall k m a out work .1 .0 ≡ bytesOf (4 ^ k) (shrunkCells k m (marked a))
+pub shrunk-bytes : (k m : ℕ) (a out work : List ℕ) → shrinkCall k m a out work .0 ≡ given done →
+    shrinkCall k m a out work .1 .0 ≡ bytesOf (4 ^ k) (shrunkCells k m (marked a))
 shrunk-bytes k m a out work e = rw e

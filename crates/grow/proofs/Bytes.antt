@@ -54,7 +54,10 @@ in-byte : (c n : ℕ) → c < 8 * n → (c / 8 < n) × (c % 8 < 8)
 in-byte c n h = omega arith
 
 -- after `settle`
-pub settled-bytes : (out₀ work₀ out work : List ℕ) → ((k : ℕ) → k < length out₀ → getD out k 0 ≡ bitOr (getD out₀ k 0) (getD work₀ k 0)) → ((k : ℕ) → k < length out₀ → getD work k 0 ≡ bitXor (bitOr (getD out₀ k 0) (getD work₀ k 0)) (getD out₀ k 0)) → Settled out₀ work₀ out work
+pub settled-bytes : (out₀ work₀ out work : List ℕ) →
+    ((k : ℕ) → k < length out₀ → getD out k 0 ≡ bitOr (getD out₀ k 0) (getD work₀ k 0)) →
+    ((k : ℕ) → k < length out₀ → getD work k 0 ≡ bitXor (bitOr (getD out₀ k 0) (getD work₀ k 0)) (getD out₀ k 0)) →
+    Settled out₀ work₀ out work
 unfolding marked
 settled-bytes out₀ work₀ out work f g = record {
   reached = λ c h. ap (λ (x : ℕ). bit x (c % 8)) (f (c / 8) (in-byte c (length out₀) h .0)) ∙ bit-or (getD out₀ (c / 8) 0) (getD work₀ (c / 8) 0) (c % 8);

@@ -32,7 +32,9 @@ module _ (M : ℕ) (R : ℕ → ℕ → Bool) (back : (c d : ℕ) → R c d ≡ 
   older (suc j) c d hc hd r g = go (grown M R j A d) refl
     where
       go : (b : Bool) → grown M R j A d ≡ b → Is (grown M R (suc j) A c) ⊎ Is (not (grown M R j A d) && grown M R (suc j) A d)
-      go true e = inl (grown-step M R j A c hc ∙ right (grown M R j A c) (anyBelow M (λ x. R c x && grown M R j A x)) (any-in M (λ x. R c x && grown M R j A x) d hd (both (R c d) (grown M R j A d) r e)))
+      go true e =
+          let Q : ℕ → Bool = λ x. R c x && grown M R j A x in
+          inl (grown-step M R j A c hc ∙ right (grown M R j A c) (anyBelow M Q) (any-in M Q d hd (both (R c d) (grown M R j A d) r e)))
       go false e = inr (rw e g)
 
   -- c touches a cell that ring j reached
@@ -56,7 +58,8 @@ module _ (M : ℕ) (R : ℕ → ℕ → Bool) (back : (c d : ℕ) → R c d ≡ 
           let o = any-out M P s in
           let p = parts (grown M R j A (o .0) && fresh j (o .0)) (R (o .0) c) (o .2) in
           let q = parts (grown M R j A (o .0)) (fresh j (o .0)) (p .0) in
-          grown-step M R j A c hc ∙ right (grown M R j A c) (anyBelow M Q) (any-in M Q (o .0) (o .1) (both (R c (o .0)) (grown M R j A (o .0)) (back c (o .0) ∙ p .1) (q .0))))
+          let near = both (R c (o .0)) (grown M R j A (o .0)) (back c (o .0) ∙ p .1) (q .0) in
+          grown-step M R j A c hc ∙ right (grown M R j A c) (anyBelow M Q) (any-in M Q (o .0) (o .1) near))
           (cases (grown M R j A c) (anyBelow M P) e)
 
       from : Is (grown M R (suc j) A c) → Is (grown M R j A c || anyBelow M P)
@@ -67,7 +70,10 @@ module _ (M : ℕ) (R : ℕ → ℕ → Bool) (back : (c d : ℕ) → R c d ≡ 
           let p = parts (R c (o .0)) (grown M R j A (o .0)) (o .2) in
           ⊎-elim
           (λ (g : Is (grown M R j A c)). left (grown M R j A c) (anyBelow M P) g)
-          (λ (f : Is (fresh j (o .0))). right (grown M R j A c) (anyBelow M P) (any-in M P (o .0) (o .1) (both (grown M R j A (o .0) && fresh j (o .0)) (R (o .0) c) (both (grown M R j A (o .0)) (fresh j (o .0)) (p .1) f) (back (o .0) c ∙ p .0))))
+          (λ (f : Is (fresh j (o .0))).
+          let new = both (grown M R j A (o .0)) (fresh j (o .0)) (p .1) f in
+          let near = both (grown M R j A (o .0) && fresh j (o .0)) (R (o .0) c) new (back (o .0) c ∙ p .0) in
+          right (grown M R j A c) (anyBelow M P) (any-in M P (o .0) (o .1) near))
           (older j c (o .0) hc (o .1) (p .0) (p .1)))
           (cases (grown M R j A c) (anyBelow M Q) (sym (grown-step M R j A c hc) ∙ e))
 
@@ -98,16 +104,21 @@ module _ (k : ℕ) (A : ℕ → Bool) where
   unfolding newly
   reaching-subset out work j r c h m = r .reached c h ∙ fresh-reached (cells k) (touches k) (touches-symmetric k) A j c h (sym (r .last c h) ∙ m)
 
-  beside-next : (out work : List ℕ) (j : ℕ) → Reaching out work j → (c : ℕ) → beside k out work 0 (cells k) c ≡ next (cells k) (touches k) (touches-symmetric k) A j c
+  beside-next : (out work : List ℕ) (j : ℕ) → Reaching out work j → (c : ℕ) →
+      beside k out work 0 (cells k) c ≡ next (cells k) (touches k) (touches-symmetric k) A j c
   unfolding beside newest next newly
-  beside-next out work j r c = any-cong (cells k) (λ d. newest out work (0 + d) && touches k (0 + d) c) (λ d. (grownCells k j A d && newly j d) && touches k d c)
+  beside-next out work j r c = any-cong (cells k)
+      (λ d. newest out work (0 + d) && touches k (0 + d) c)
+      (λ d. (grownCells k j A d && newly j d) && touches k d c)
       (λ d h. rw zero-add (ap (λ (b : Bool). b && touches k d c) (ap₂ _&&_ (r .reached d h) (r .last d h))))
 
   pub reaching-step : (out₀ work₀ out work : List ℕ) (j : ℕ) → Reaching out₀ work₀ j → Ringed k out₀ work₀ out work → Reaching out work (j + 1)
   unfolding newly
   reaching-step out₀ work₀ out work j r g = rw add-one (record {
     reached = λ c h. g .reached c h ∙ ap₂ _||_ (r .reached c h) (beside-next out₀ work₀ j r c) ∙ ring-step (cells k) (touches k) (touches-symmetric k) A j c h;
-    last = λ c h. g .last c h ∙ ap₂ (λ (a b : Bool). not a && b) (r .reached c h) (beside-next out₀ work₀ j r c) ∙ fresh-step (cells k) (touches k) (touches-symmetric k) A j c h;
+    last = λ c h.
+        g .last c h ∙ ap₂ (λ (a b : Bool). not a && b) (r .reached c h) (beside-next out₀ work₀ j r c)
+        ∙ fresh-step (cells k) (touches k) (touches-symmetric k) A j c h;
   })
 
   pub reaching-bytes : (out work : List ℕ) (j : ℕ) → length out ≡ 4 ^ k → Bytes out → Reaching out work j → out ≡ bytesOf (4 ^ k) (grownCells k j A)
@@ -119,8 +130,14 @@ reaching-start k s = record { reached = λ c h. sym (grown-zero (cells k) (touch
 
 -- ---- shrinking is growing of the complement, complemented
 
-pub shrunk-bytes : (k m : ℕ) (a turned spread out : List ℕ) → length a ≡ 4 ^ k → length spread ≡ 4 ^ k → length out ≡ 4 ^ k → Bytes out → ((c : ℕ) → c < 8 * length a → marked turned c ≡ not (marked a c)) → spread ≡ bytesOf (4 ^ k) (grownCells k m (marked turned)) → ((c : ℕ) → c < 8 * length spread → marked out c ≡ not (marked spread c)) → out ≡ bytesOf (4 ^ k) (shrunkCells k m (marked a))
+pub shrunk-bytes : (k m : ℕ) (a turned spread out : List ℕ) →
+    length a ≡ 4 ^ k → length spread ≡ 4 ^ k → length out ≡ 4 ^ k → Bytes out →
+    ((c : ℕ) → c < 8 * length a → marked turned c ≡ not (marked a c)) →
+    spread ≡ bytesOf (4 ^ k) (grownCells k m (marked turned)) →
+    ((c : ℕ) → c < 8 * length spread → marked out c ≡ not (marked spread c)) →
+    out ≡ bytesOf (4 ^ k) (shrunkCells k m (marked a))
 shrunk-bytes k m a turned spread out la ls lo b t s u = settled (4 ^ k) out (shrunkCells k m (marked a)) lo b (λ c h.
+    let grows = grown-cong (cells k) (touches k) m (marked turned) (λ d. not (marked a d)) (λ d l. t d (omega arith)) c in
     u c (omega arith)
-    ∙ ap not (ap (λ (l : List ℕ). marked l c) s ∙ marked-bytesOf (4 ^ k) (grownCells k m (marked turned)) c h ∙ grown-cong (cells k) (touches k) m (marked turned) (λ d. not (marked a d)) (λ d l. t d (omega arith)) c)
+    ∙ ap not (ap (λ (l : List ℕ). marked l c) s ∙ marked-bytesOf (4 ^ k) (grownCells k m (marked turned)) c h ∙ grows)
     ∙ sym (shrunk-grown (cells k) (touches k) m (marked a) c))

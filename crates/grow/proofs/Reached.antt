@@ -52,16 +52,24 @@ none-listed list out work c = go (marked work c) (marked out c)
     go false true = refl
     go false false = refl
 
-pub more-listed : (list out work₀ work : List ℕ) (i : ℕ) → getD list i 0 < 8 * length work → Marked list out work₀ work i → Marked list out work₀ (cond (marked out (getD list i 0)) work (marking work (getD list i 0))) (i + 1)
+pub more-listed : (list out work₀ work : List ℕ) (i : ℕ) → getD list i 0 < 8 * length work → Marked list out work₀ work i →
+    Marked list out work₀ (cond (marked out (getD list i 0)) work (marking work (getD list i 0))) (i + 1)
 unfolding listed anyBelow
 more-listed list out work₀ work i h m c = go (marked out d) refl
   where
     d : ℕ
     d = getD list i 0
 
-    go : (b : Bool) → marked out d ≡ b → marked (cond b work (marking work d)) c ≡ (marked work₀ c || (not (marked out c) && anyBelow (i + 1) (λ j. eqb (getD list j 0) c)))
-    go true u = m c ∙ rw add-one (more-reached (marked work₀ c) (marked out c) (anyBelow i (λ j. eqb (getD list j 0) c)) (eqb d c) (at-cell list out i c true u))
-    go false u = marked-marking work d c h ∙ ap (λ (b : Bool). b || eqb d c) (m c) ∙ rw add-one (more-unreached (marked work₀ c) (marked out c) (anyBelow i (λ j. eqb (getD list j 0) c)) (eqb d c) (at-cell list out i c false u))
+    taken : Bool
+    taken = anyBelow i (λ j. eqb (getD list j 0) c)
+
+    go : (b : Bool) → marked out d ≡ b →
+        marked (cond b work (marking work d)) c ≡ (marked work₀ c || (not (marked out c) && anyBelow (i + 1) (λ j. eqb (getD list j 0) c)))
+    go true u = m c ∙ rw add-one (more-reached (marked work₀ c) (marked out c) taken (eqb d c) (at-cell list out i c true u))
+    go false u =
+        marked-marking work d c h
+        ∙ ap (λ (b : Bool). b || eqb d c) (m c)
+        ∙ rw add-one (more-unreached (marked work₀ c) (marked out c) taken (eqb d c) (at-cell list out i c false u))
 
 -- ---- the list of touching cells
 
@@ -71,7 +79,12 @@ unfolding rising
 rising-only P zero m i h = absurd (omega arith)
 rising-only P (suc j) m i h = go (P m) refl i h (rising-only P j (suc m))
   where
-    go : (b : Bool) → P m ≡ b → (i : ℕ) → i < length (cond b (m ∷ rising P j (suc m)) (rising P j (suc m))) → ((i : ℕ) → i < length (rising P j (suc m)) → (getD (rising P j (suc m)) i 0 < suc m + j) × (P (getD (rising P j (suc m)) i 0) ≡ true)) → (getD (cond b (m ∷ rising P j (suc m)) (rising P j (suc m))) i 0 < m + suc j) × (P (getD (cond b (m ∷ rising P j (suc m)) (rising P j (suc m))) i 0) ≡ true)
+    go : (b : Bool) → P m ≡ b → (i : ℕ) →
+        let rest = rising P j (suc m) in
+        let l = cond b (m ∷ rest) rest in
+        i < length l →
+        ((i : ℕ) → i < length rest → (getD rest i 0 < suc m + j) × (P (getD rest i 0) ≡ true)) →
+        (getD l i 0 < m + suc j) × (P (getD l i 0) ≡ true)
     go true e zero h ih = (omega arith, e)
     go true e (suc i) h ih = let r = ih i (le-of-suc-le-suc h) in (omega (arith, r .0), r .1)
     go false e i h ih = let r = ih i h in (omega (arith, r .0), r .1)
@@ -81,7 +94,11 @@ unfolding rising
 rising-every P zero m c l u t = absurd (omega arith)
 rising-every P (suc j) m c l u t = go (P m) refl (eq-or-lt-of-le l) (rising-every P j (suc m) c)
   where
-    go : (b : Bool) → P m ≡ b → (m ≡ c) ⊎ (m < c) → (suc m ≤ c → c < suc m + j → P c ≡ true → (i : ℕ) × (i < length (rising P j (suc m))) × (getD (rising P j (suc m)) i 0 ≡ c)) → (i : ℕ) × (i < length (cond b (m ∷ rising P j (suc m)) (rising P j (suc m)))) × (getD (cond b (m ∷ rising P j (suc m)) (rising P j (suc m))) i 0 ≡ c)
+    go : (b : Bool) → P m ≡ b → (m ≡ c) ⊎ (m < c) →
+        let rest = rising P j (suc m) in
+        let l = cond b (m ∷ rest) rest in
+        (suc m ≤ c → c < suc m + j → P c ≡ true → (i : ℕ) × (i < length rest) × (getD rest i 0 ≡ c)) →
+        (i : ℕ) × (i < length l) × (getD l i 0 ≡ c)
     go true e (inl d) ih = (0, omega arith, d)
     go true e (inr h) ih = let r = ih h (omega arith) t in (suc (r .0), suc-le-suc (r .1), r .2)
     go false e (inl d) ih = clash (ap P d ∙ t) e
@@ -111,7 +128,8 @@ unfolding touching
 listed-below k n i h = rw (padded-at (rising (touches k n) (cells k) 0) i h) (omega (arith, rising-only (touches k n) (cells k) 0 i h .0))
 
 -- what `touching_cells` answers where level and cell are in range
-pub list-answer : (k n : ℕ) (out : List ℕ) → k ≤ maxLevel → n < cells k → length out ≡ 12 → listCall k n out ≡ (given (length (touching k n)), padded (touching k n))
+pub list-answer : (k n : ℕ) (out : List ℕ) → k ≤ maxLevel → n < cells k → length out ≡ 12 →
+    listCall k n out ≡ (given (length (touching k n)), padded (touching k n))
 list-answer k n out hk hn e = rw (le-ltb maxLevel k hk, lt-leb (cells k) n hn, eq-eqb (length out) 12 e)
 
 -- ---- a cell that the last ring reached, or did not
@@ -171,20 +189,31 @@ pub scanned-none : (k : ℕ) (out work : List ℕ) (f : ℕ) → Scanned k out w
 unfolding beside anyBelow
 scanned-none k out work f c h = idle (marked work c) (marked out c)
 
-pub scanned-join : (k : ℕ) (out work₀ work₁ work₂ : List ℕ) (f n m : ℕ) → f + n + m ≤ cells k → Scanned k out work₀ work₁ f n → Scanned k out work₁ work₂ (f + n) m → Scanned k out work₀ work₂ f (n + m)
+pub scanned-join : (k : ℕ) (out work₀ work₁ work₂ : List ℕ) (f n m : ℕ) → f + n + m ≤ cells k →
+    Scanned k out work₀ work₁ f n → Scanned k out work₁ work₂ (f + n) m → Scanned k out work₀ work₂ f (n + m)
 unfolding beside
 scanned-join k out work₀ work₁ work₂ f n m h s t c u =
     t c u
     ∙ ap₂ (λ (a b : Bool). a || (not (marked out c) && b)) (s c u) same
-    ∙ in-two (marked work₀ c) (marked out c) (anyBelow n (λ j. newest out work₀ (f + j) && touches k (f + j) c)) (anyBelow m (λ j. newest out work₀ (f + (n + j)) && touches k (f + (n + j)) c))
-    ∙ ap (λ (b : Bool). marked work₀ c || (not (marked out c) && b)) (sym (any-add n m (λ j. newest out work₀ (f + j) && touches k (f + j) c)))
+    ∙ in-two (marked work₀ c) (marked out c) (anyBelow n (λ j. near (f + j))) (anyBelow m (λ j. near (f + (n + j))))
+    ∙ ap (λ (b : Bool). marked work₀ c || (not (marked out c) && b)) (sym (any-add n m (λ j. near (f + j))))
   where
-    same : anyBelow m (λ j. newest out work₁ (f + n + j) && touches k (f + n + j) c) ≡ anyBelow m (λ j. newest out work₀ (f + (n + j)) && touches k (f + (n + j)) c)
-    same = any-cong m (λ j. newest out work₁ (f + n + j) && touches k (f + n + j) c) (λ j. newest out work₀ (f + (n + j)) && touches k (f + (n + j)) c)
-        (λ j l. ap (λ (b : Bool). b && touches k (f + n + j) c) (scanned-same k out work₀ work₁ f n s (f + n + j) (omega arith)) ∙ ap (λ (i : ℕ). newest out work₀ i && touches k i c) (add-assoc f n j))
+    near : ℕ → Bool
+    near d = newest out work₀ d && touches k d c
+
+    after : ℕ → Bool
+    after d = newest out work₁ d && touches k d c
+
+    same : anyBelow m (λ j. after (f + n + j)) ≡ anyBelow m (λ j. near (f + (n + j)))
+    same = any-cong m (λ j. after (f + n + j)) (λ j. near (f + (n + j)))
+        (λ j l.
+        ap (λ (b : Bool). b && touches k (f + n + j) c) (scanned-same k out work₀ work₁ f n s (f + n + j) (omega arith))
+        ∙ ap near (add-assoc f n j))
 
 -- one cell that was visited
-pub scanned-one : (k : ℕ) (out work work′ : List ℕ) (d : ℕ) → ((c : ℕ) → c < cells k → marked work′ c ≡ (marked work c || (not (marked out c) && (newest out work d && touches k d c)))) → Scanned k out work work′ d 1
+pub scanned-one : (k : ℕ) (out work work′ : List ℕ) (d : ℕ) →
+    ((c : ℕ) → c < cells k → marked work′ c ≡ (marked work c || (not (marked out c) && (newest out work d && touches k d c)))) →
+    Scanned k out work work′ d 1
 unfolding beside anyBelow
 scanned-one k out work work′ d h c u = rw add-zero (h c u)
 
@@ -192,7 +221,9 @@ scanned-one k out work work′ d h c u = rw add-zero (h c u)
 pub scanned-zero : (k : ℕ) (out work : List ℕ) (i : ℕ) → getD work i 0 ≡ 0 → Scanned k out work work (8 * i) 8
 unfolding beside
 scanned-zero k out work i e c u =
-    rw (any-none 8 (λ j. newest out work (8 * i + j) && touches k (8 * i + j) c) (λ j l. ap (λ (b : Bool). b && touches k (8 * i + j) c) (not-newest out work (8 * i + j) (marked-at work i j l ∙ ap (λ (x : ℕ). bit x j) e ∙ bit-zero j))))
+    rw (any-none 8 (λ j. newest out work (8 * i + j) && touches k (8 * i + j) c) (λ j l.
+    let none = marked-at work i j l ∙ ap (λ (x : ℕ). bit x j) e ∙ bit-zero j in
+    ap (λ (b : Bool). b && touches k (8 * i + j) c) (not-newest out work (8 * i + j) none)))
     (idle (marked work c) (marked out c))
 
 -- ---- one ring
@@ -208,8 +239,16 @@ last-ring true w s h = refl
 last-ring false true s h = clash (h refl) refl
 last-ring false false s h = refl
 
-pub ringed : (k : ℕ) (out₀ work₀ work₁ out work : List ℕ) → length out₀ ≡ 4 ^ k → ((c : ℕ) → c < cells k → marked work₀ c ≡ true → marked out₀ c ≡ true) → Scanned k out₀ work₀ work₁ 0 (cells k) → Settled out₀ work₁ out work → Ringed k out₀ work₀ out work
+pub ringed : (k : ℕ) (out₀ work₀ work₁ out work : List ℕ) → length out₀ ≡ 4 ^ k →
+    ((c : ℕ) → c < cells k → marked work₀ c ≡ true → marked out₀ c ≡ true) →
+    Scanned k out₀ work₀ work₁ 0 (cells k) → Settled out₀ work₁ out work → Ringed k out₀ work₀ out work
 ringed k out₀ work₀ work₁ out work e h s t = record {
-  reached = λ c u. t .reached c (omega arith) ∙ ap (λ (b : Bool). marked out₀ c || b) (s c u) ∙ reached-ring (marked out₀ c) (marked work₀ c) (beside k out₀ work₀ 0 (cells k) c) (h c u);
-  last = λ c u. t .last c (omega arith) ∙ ap (λ (b : Bool). not (marked out₀ c) && b) (s c u) ∙ last-ring (marked out₀ c) (marked work₀ c) (beside k out₀ work₀ 0 (cells k) c) (h c u);
+  reached = λ c u.
+      t .reached c (omega arith)
+      ∙ ap (λ (b : Bool). marked out₀ c || b) (s c u)
+      ∙ reached-ring (marked out₀ c) (marked work₀ c) (beside k out₀ work₀ 0 (cells k) c) (h c u);
+  last = λ c u.
+      t .last c (omega arith)
+      ∙ ap (λ (b : Bool). not (marked out₀ c) && b) (s c u)
+      ∙ last-ring (marked out₀ c) (marked work₀ c) (beside k out₀ work₀ 0 (cells k) c) (h c u);
 }

@@ -24,7 +24,8 @@ fn mark_one(cell: CellNumber, out: &[u8], work: &mut [u8])
 // Marks in `work` the first `count` cells of a list that `out` does not mark.
 fn mark_unreached(list: &[u32; 12], count: u32, out: &[u8], work: &mut [u8])
     requires { ⌜ (count ≤ 12) × ((i : ℕ) → i < count → getD (now list) i 0 < 8 * length (now work)) ⌝ }
-    ensures { λ _. ⌜ ((c : ℕ) → marked (now (work .exit)) c ≡ (marked (now (work .entry)) c || (not (marked (now (out .entry)) c) && listed (now (list .entry)) count c))) ⌝ }
+    ensures { λ _. ⌜ ((c : ℕ) →
+        marked (now (work .exit)) c ≡ (marked (now (work .entry)) c || (not (marked (now (out .entry)) c) && listed (now (list .entry)) count c))) ⌝ }
 {
     let mut i = 0;
     while i < count {
@@ -37,7 +38,8 @@ fn mark_unreached(list: &[u32; 12], count: u32, out: &[u8], work: &mut [u8])
 // Marks in `work` the cells that touch a cell and that `out` does not mark.
 fn expand(level: u32, cell: CellNumber, out: &[u8], work: &mut [u8])
     requires { ⌜ (level ≤ maxMaskLevel) × (cell < cells level) × (length (now work) ≡ 4 ^ level) ⌝ }
-    ensures { λ _. ⌜ ((c : ℕ) → c < cells level → marked (now (work .exit)) c ≡ (marked (now (work .entry)) c || (not (marked (now (out .entry)) c) && touches level cell c))) ⌝ }
+    ensures { λ _. ⌜ ((c : ℕ) → c < cells level →
+        marked (now (work .exit)) c ≡ (marked (now (work .entry)) c || (not (marked (now (out .entry)) c) && touches level cell c))) ⌝ }
 {
     let mut list = [0u32; 12];
     match touch::touching_cells(level, cell, &mut list) {
@@ -49,7 +51,10 @@ fn expand(level: u32, cell: CellNumber, out: &[u8], work: &mut [u8])
 // Expands a cell where the last ring reached it.
 fn visit(level: u32, cell: CellNumber, out: &[u8], work: &mut [u8])
     requires { ⌜ (level ≤ maxMaskLevel) × (cell < cells level) × (length (now work) ≡ 4 ^ level) ⌝ }
-    ensures { λ _. ⌜ ((c : ℕ) → c < cells level → marked (now (work .exit)) c ≡ (marked (now (work .entry)) c || (not (marked (now (out .entry)) c) && (newest (now (out .entry)) (now (work .entry)) cell && touches level cell c)))) ⌝ }
+    ensures { λ _. ⌜ ((c : ℕ) → c < cells level →
+        marked (now (work .exit)) c
+        ≡ (marked (now (work .entry)) c
+        || (not (marked (now (out .entry)) c) && (newest (now (out .entry)) (now (work .entry)) cell && touches level cell c)))) ⌝ }
 {
     if bitset::is_marked(out, cell) {
         if bitset::is_marked(work, cell) {

@@ -45,10 +45,12 @@ joinable k a b out e =
     }
 
 -- a join that its tests refuse, or do not
-pub join-refused : (k : ℕ) (a b out : List ℕ) (r : JoinAnswer) (n : ℕ) → r ≡ join-answer.Refused n → saidJoin r ≡ inOrder (joinTests k a b out) done → (refused n, out) ≡ joinCall k a b out
+pub join-refused : (k : ℕ) (a b out : List ℕ) (r : JoinAnswer) (n : ℕ) → r ≡ join-answer.Refused n →
+    saidJoin r ≡ inOrder (joinTests k a b out) done → (refused n, out) ≡ joinCall k a b out
 join-refused k a b out r n e h = lent-refused (inOrder (joinTests k a b out) done) out _ n (sym (ap saidJoin e) ∙ h)
 
-pub join-given : (k : ℕ) (a b out l : List ℕ) → given done ≡ inOrder (joinTests k a b out) done → l ≡ bytesOf (length out) (union (marked a) (marked b)) → (given done, l) ≡ joinCall k a b out
+pub join-given : (k : ℕ) (a b out l : List ℕ) → given done ≡ inOrder (joinTests k a b out) done →
+    l ≡ bytesOf (length out) (union (marked a) (marked b)) → (given done, l) ≡ joinCall k a b out
 join-given k a b out l h e =
     ap (λ (x : List ℕ). (given done, x)) (rw (joinable k a b out h .written) at e)
     ∙ lent-given (inOrder (joinTests k a b out) done) out (bytesOf (4 ^ k) (union (marked a) (marked b))) done h

@@ -65,7 +65,8 @@ module _ (M : ℕ) (R : ℕ → ℕ → Bool) (c : ℕ) (hc : c < M) where
   stable i e zero d h p = rw add-zero at p
   stable i e (suc n) d h p = ⊎-elim
       (λ (q : reaches M R (i + n) c d ≡ true). stable i e n d h q)
-      (λ (w : (x : ℕ) × (x < M) × (reaches M R (i + n) c x ≡ true) × (R x d ≡ true)). no-more i d e h (reach-step M R i c (w .0) d (w .1) (stable i e n (w .0) (w .1) (w .2)) (w .3)))
+      (λ (w : (x : ℕ) × (x < M) × (reaches M R (i + n) c x ≡ true) × (R x d ≡ true)).
+      no-more i d e h (reach-step M R i c (w .0) d (w .1) (stable i e n (w .0) (w .1) (w .2)) (w .3)))
       (reach-out M R (i + n) c d (rw (add-suc i n) at p))
 
   -- so after i steps more than i numbers are reached, or no step adds any
@@ -89,5 +90,7 @@ module _ (M : ℕ) (R : ℕ → ℕ → Bool) (c : ℕ) (hc : c < M) where
   unfolding S
   closure m d h p = ⊎-elim
       (λ (l : M < size M (S M)). absurd (omega (arith, size-le M (S M))))
-      (λ (w : (j : ℕ) × (j ≤ M) × (more j ≡ false)). reach-more M R (w .0) M c d (w .1) (stable (w .0) (w .2) m d h (reach-more M R m (w .0 + m) c d (omega arith) p)))
+      (λ (w : (j : ℕ) × (j ≤ M) × (more j ≡ false)).
+      let there = reach-more M R m (w .0 + m) c d (omega arith) p in
+      reach-more M R (w .0) M c d (w .1) (stable (w .0) (w .2) m d h there))
       (grows M)

@@ -25,7 +25,9 @@ unfolding lowest
 none-lowest P zero m e c h l = absurd (omega arith)
 none-lowest P (suc j) m e c h l = go (P m) refl (none-lowest P j (suc m)) e
   where
-    go : (t : Bool) → P m ≡ t → (lowest P j (suc m) ≡ within → (c : ℕ) → suc m ≤ c → c < suc m + j → P c ≡ false) → cond t (lacks m) (lowest P j (suc m)) ≡ within → P c ≡ false
+    go : (t : Bool) → P m ≡ t →
+        (lowest P j (suc m) ≡ within → (c : ℕ) → suc m ≤ c → c < suc m + j → P c ≡ false) →
+        cond t (lacks m) (lowest P j (suc m)) ≡ within → P c ≡ false
     go true p ih e = lacks-some e
     go false p ih e = ⊎-elim
         (λ (q : m ≡ c). subst (λ (i : ℕ). P i ≡ false) q p)
@@ -42,10 +44,13 @@ none-lacks true y f = ap not (f refl)
 none-lacks false y f = refl
 
 -- it is `within` exactly when every cell marked in the first mask is marked in the second
-pub within-exactly : (k : ℕ) (a b : List ℕ) → k ≤ maxMaskLevel → length a ≡ 4 ^ k → length b ≡ 4 ^ k → (withinCall k a b ≡ given within) ↔ ((c : ℕ) → c < cells k → marked a c ≡ true → marked b c ≡ true)
+pub within-exactly : (k : ℕ) (a b : List ℕ) → k ≤ maxMaskLevel → length a ≡ 4 ^ k → length b ≡ 4 ^ k →
+    (withinCall k a b ≡ given within) ↔ ((c : ℕ) → c < cells k → marked a c ≡ true → marked b c ≡ true)
 unfolding difference
 within-exactly k a b h p q = (
-  (λ e c l. lacks-none (marked a c) (marked b c) (none-lowest (difference (marked a) (marked b)) (cells k) 0 (given-same (sym answer ∙ e)) c (omega arith) (omega arith))),
+  (λ e c l.
+      let none = none-lowest (difference (marked a) (marked b)) (cells k) 0 (given-same (sym answer ∙ e)) c (omega arith) (omega arith) in
+      lacks-none (marked a c) (marked b c) none),
   (λ f. answer ∙ ap given (lowest-none (difference (marked a) (marked b)) (cells k) 0 (λ c l. none-lacks (marked a c) (marked b c) (f c (omega arith))))),
 )
   where

@@ -29,7 +29,9 @@ unfolding lowest
 lowest-at P zero m r h l f e = absurd (omega arith)
 lowest-at P (suc j) m r h l f e = go (P m) refl (lowest-at P j (suc m) r)
   where
-    go : (b : Bool) → P m ≡ b → (suc m ≤ r → r < suc m + j → ((c : ℕ) → c < r → P c ≡ false) → P r ≡ true → lowest P j (suc m) ≡ lacks r) → cond b (lacks m) (lowest P j (suc m)) ≡ lacks r
+    go : (b : Bool) → P m ≡ b →
+        (suc m ≤ r → r < suc m + j → ((c : ℕ) → c < r → P c ≡ false) → P r ≡ true → lowest P j (suc m) ≡ lacks r) →
+        cond b (lacks m) (lowest P j (suc m)) ≡ lacks r
     go true q ih = ⊎-elim
         (λ (d : m ≡ r). ap lacks d)
         (λ (d : m < r). clash q (f m d))
@@ -61,7 +63,8 @@ module _ (a b : List ℕ) (i j : ℕ) (h : j < 8) where
 
 -- ---- a byte of either mask
 
-pub either : (a b : List ℕ) (i : ℕ) → getD a i 0 < 256 → getD b i 0 < 256 → bitOr (getD a i 0) (getD b i 0) ≡ bitsOf 8 (λ j. union (marked a) (marked b) (8 * i + j))
+pub either : (a b : List ℕ) (i : ℕ) → getD a i 0 < 256 → getD b i 0 < 256 →
+    bitOr (getD a i 0) (getD b i 0) ≡ bitsOf 8 (λ j. union (marked a) (marked b) (8 * i + j))
 unfolding union
 either a b i h l = bits-settled 8 (bitOr (getD a i 0) (getD b i 0)) (λ j. marked a (8 * i + j) || marked b (8 * i + j)) (or-lt 8 (getD a i 0) (getD b i 0) h l)
     (λ j k. bit-or (getD a i 0) (getD b i 0) j ∙ rw (marked-at a i j k, marked-at b i j k))

@@ -76,13 +76,19 @@ module _ (M : ℕ) (R : ℕ → ℕ → Bool) where
 
   pub reach-step : (m c e d : ℕ) → e < M → Is (reaches M R m c e) → Is (R e d) → Is (reaches M R (suc m) c d)
   unfolding reaches
-  reach-step m c e d h p q = right (reaches M R m c d) (anyBelow M (λ e. reaches M R m c e && R e d)) (any-in M (λ e. reaches M R m c e && R e d) e h (both (reaches M R m c e) (R e d) p q))
+  reach-step m c e d h p q =
+      let P : ℕ → Bool = λ e. reaches M R m c e && R e d in
+      right (reaches M R m c d) (anyBelow M P) (any-in M P e h (both (reaches M R m c e) (R e d) p q))
 
   pub reach-out : (m c d : ℕ) → Is (reaches M R (suc m) c d) → Is (reaches M R m c d) ⊎ ((e : ℕ) × (e < M) × Is (reaches M R m c e) × Is (R e d))
   unfolding reaches
-  reach-out m c d p = ⊎-elim inl
-      (λ (s : Is (anyBelow M (λ e. reaches M R m c e && R e d))). let w = any-out M (λ e. reaches M R m c e && R e d) s in let q = parts (reaches M R m c (w .0)) (R (w .0) d) (w .2) in inr (w .0, w .1, q .0, q .1))
-      (cases (reaches M R m c d) (anyBelow M (λ e. reaches M R m c e && R e d)) p)
+  reach-out m c d p =
+      let P : ℕ → Bool = λ e. reaches M R m c e && R e d in ⊎-elim inl
+      (λ (s : Is (anyBelow M P)).
+      let w = any-out M P s in
+      let q = parts (reaches M R m c (w .0)) (R (w .0) d) (w .2) in
+      inr (w .0, w .1, q .0, q .1))
+      (cases (reaches M R m c d) (anyBelow M P) p)
 
   -- no step is needed to stay, and more may be left over
   pub reach-self : (m c : ℕ) → Is (reaches M R m c c)
@@ -107,7 +113,9 @@ module _ (M : ℕ) (R : ℕ → ℕ → Bool) where
   reach-split m zero c e h p = (e, h, rw (add-zero m) at p, eq-eqb e e refl)
   reach-split m (suc n) c e h p = ⊎-elim
       (λ (l : Is (reaches M R (m + n) c e)). let w = reach-split m n c e h l in (w .0, w .1, w .2, reach-stay n (w .0) e (w .3)))
-      (λ (v : (f : ℕ) × (f < M) × Is (reaches M R (m + n) c f) × Is (R f e)). let w = reach-split m n c (v .0) (v .1) (v .2) in (w .0, w .1, w .2, reach-step n (w .0) (v .0) e (v .1) (w .3) (v .3)))
+      (λ (v : (f : ℕ) × (f < M) × Is (reaches M R (m + n) c f) × Is (R f e)).
+      let w = reach-split m n c (v .0) (v .1) (v .2) in
+      (w .0, w .1, w .2, reach-step n (w .0) (v .0) e (v .1) (w .3) (v .3)))
       (reach-out (m + n) c e (rw (add-suc m n) at p))
 
   -- a step in front
@@ -120,7 +128,9 @@ module _ (M : ℕ) (R : ℕ → ℕ → Bool) where
   reach-one : (c d : ℕ) → Is (reaches M R 1 c d) → (c ≡ d) ⊎ Is (R c d)
   reach-one c d p = ⊎-elim
       (λ (l : Is (reaches M R 0 c d)). inl (eqb-true c d (sym (reach-zero c d) ∙ l)))
-      (λ (w : (e : ℕ) × (e < M) × Is (reaches M R 0 c e) × Is (R e d)). inr (subst (λ (i : ℕ). Is (R i d)) (sym (eqb-true c (w .0) (sym (reach-zero c (w .0)) ∙ w .2))) (w .3)))
+      (λ (w : (e : ℕ) × (e < M) × Is (reaches M R 0 c e) × Is (R e d)).
+      let same = eqb-true c (w .0) (sym (reach-zero c (w .0)) ∙ w .2) in
+      inr (subst (λ (i : ℕ). Is (R i d)) (sym same) (w .3)))
       (reach-out 0 c d p)
 
   -- ---- growing
@@ -185,7 +195,9 @@ module _ (M : ℕ) (R : ℕ → ℕ → Bool) where
       let v = reach-split 1 m c (w .0) (w .1) (rw k (w .2)) in
       let g = grown-in m A (v .0) (w .0) (w .1) (v .3) (w .3) in ⊎-elim
       (λ (e : c ≡ v .0). left (grown M R m A c) ring (subst (λ (i : ℕ). Is (grown M R m A i)) (sym e) g))
-      (λ (r : Is (R c (v .0))). right (grown M R m A c) ring (any-in M (λ d. R c d && grown M R m A d) (v .0) (v .1) (both (R c (v .0)) (grown M R m A (v .0)) r g)))
+      (λ (r : Is (R c (v .0))).
+      let near = both (R c (v .0)) (grown M R m A (v .0)) r g in
+      right (grown M R m A c) ring (any-in M (λ d. R c d && grown M R m A d) (v .0) (v .1) near))
       (reach-one c (v .0) (v .2)))
       (λ p. ⊎-elim (grown-more m (suc m) A c (omega arith)) from (cases (grown M R m A c) ring p))
     where
@@ -235,7 +247,8 @@ module _ (M : ℕ) (R : ℕ → ℕ → Bool) (back : (c d : ℕ) → c < M → 
   turned zero c d h l p = eq-eqb d c (sym (eqb-true c d p))
   turned (suc m) c d h l p = ⊎-elim
       (λ (q : Is (reaches M R m c d)). reach-stay M R m d c (turned m c d h l q))
-      (λ (w : (e : ℕ) × (e < M) × Is (reaches M R m c e) × Is (R e d)). reach-front M R m d (w .0) c l (back d (w .0) l (w .1) ∙ w .3) (turned m c (w .0) h (w .1) (w .2)))
+      (λ (w : (e : ℕ) × (e < M) × Is (reaches M R m c e) × Is (R e d)).
+      reach-front M R m d (w .0) c l (back d (w .0) l (w .1) ∙ w .3) (turned m c (w .0) h (w .1) (w .2)))
       (reach-out M R m c d p)
 
   pub reach-sym : (m c d : ℕ) → c < M → d < M → reaches M R m c d ≡ reaches M R m d c

@@ -6,7 +6,8 @@ ghost use Prim.Native.Nat.{ℕ, _*_, _^_, _≤_, _<_};
 ghost use lib.ListN.{length};
 ghost use Rattle.refusal.specs.Answer.{done, inOrder};
 ghost use Rattle.bitset.specs.Bits.{marked, bytesOf, size};
-ghost use Rattle.mask.specs.Mask.{maxMaskLevel, union, difference, maskCall, joinCall, countCall, withinCall, joinTests, saidMask, saidJoin, saidCount, saidWithin};
+ghost use Rattle.mask.specs.Mask.{maxMaskLevel, union, difference, maskCall, joinCall, countCall, withinCall, joinTests};
+ghost use Rattle.mask.specs.Mask.{saidMask, saidJoin, saidCount, saidWithin};
 use cell::CellNumber;
 
 // The highest level of masks and charts.

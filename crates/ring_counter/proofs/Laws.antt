@@ -35,11 +35,13 @@ module _ (m : ℕ) (a o w : List ℕ) (la : length a ≡ 1024) (lo : length o �
   only-rings v = passed-on sizes (badRings m ∷ []) v (refl, (length-passes 1024 a la, (length-passes 1024 o lo, (length-passes 1024 w lw, tt))))
 
   -- it is grown, and both masks are counted
-  pub both-counted : (x y : List ℕ) (p q : ℕ) → (given done, (x, y)) ≡ growCall 5 m a o w → p ≡ size (cells 5) (marked a) → q ≡ size (cells 5) (marked x) → given (p, q) ≡ inOrder (badRings m ∷ []) (counts m a)
+  pub both-counted : (x y : List ℕ) (p q : ℕ) → (given done, (x, y)) ≡ growCall 5 m a o w →
+      p ≡ size (cells 5) (marked a) → q ≡ size (cells 5) (marked x) → given (p, q) ≡ inOrder (badRings m ∷ []) (counts m a)
   both-counted x y p q e ep eq =
       let g = ap (λ (r : Answer (Unit {0}) × (List ℕ × List ℕ)). r .0) e in
       let b = ap (λ (r : Answer (Unit {0}) × (List ℕ × List ℕ)). r .1 .0) e ∙ grown-bytes 5 m a o w (sym g) in
-      let s = eq ∙ ap (λ (l : List ℕ). size (cells 5) (marked l)) b ∙ size-cong (cells 5) (marked _) (grownCells 5 m (marked a)) (marked-bytesOf 1024 (grownCells 5 m (marked a))) in
+      let G = grownCells 5 m (marked a) in
+      let s = eq ∙ ap (λ (l : List ℕ). size (cells 5) (marked l)) b ∙ size-cong (cells 5) (marked _) G (marked-bytesOf 1024 G) in
       ap₂ (λ (i j : ℕ). given (i, j)) ep s ∙ gives (badRings m ∷ []) (counts m a) (passed (badRings m ∷ []) done done (g ∙ sym (only-rings done)) .0)
 
   -- or refused
@@ -52,7 +54,8 @@ module _ (m : ℕ) (a o w : List ℕ) (la : length a ≡ 1024) (lo : length o �
 pub other-length : (input : List ℕ) → (length input ≡ inputBytes → ⊥) → refused 5 ≡ ringCounts input
 other-length input n = length-refused inputBytes input (badRings (getD input 0 0) ∷ []) (counts (getD input 0 0) (drop 1 input)) n
 
-pub right-length : (input mask : List ℕ) (r : Answer (ℕ × ℕ)) → length input ≡ inputBytes → mask ≡ drop 1 input → r ≡ inOrder (badRings (getD input 0 0) ∷ []) (counts (getD input 0 0) mask) → r ≡ ringCounts input
+pub right-length : (input mask : List ℕ) (r : Answer (ℕ × ℕ)) → length input ≡ inputBytes → mask ≡ drop 1 input →
+    r ≡ inOrder (badRings (getD input 0 0) ∷ []) (counts (getD input 0 0) mask) → r ≡ ringCounts input
 right-length input mask r e m h =
     let m₀ = getD input 0 0 in
     h
@@ -60,7 +63,9 @@ right-length input mask r e m h =
     ∙ length-passed inputBytes input (badRings m₀ ∷ []) (counts m₀ (drop 1 input)) e
 
 -- the mask is what follows the first byte
-pub mask-copied : (input z m : List ℕ) → let part = take (length input - 1) (drop 1 input) in length input ≡ inputBytes → length z ≡ 1024 → m ≡ take (length part) part ++ drop (length part) z → m ≡ drop 1 input
+pub mask-copied : (input z m : List ℕ) →
+    let part = take (length input - 1) (drop 1 input) in
+    length input ≡ inputBytes → length z ≡ 1024 → m ≡ take (length part) part ++ drop (length part) z → m ≡ drop 1 input
 mask-copied input z m e l h =
     let rest : take (length input - 1) (drop 1 input) ≡ drop 1 input = take-all (length input - 1) (drop 1 input) (simp length-drop (omega arith)) in
     copied (take (length input - 1) (drop 1 input)) z m (ap length rest ∙ simp length-drop (omega arith)) h ∙ rest

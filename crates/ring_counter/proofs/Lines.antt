@@ -18,7 +18,10 @@ module _ (out : List ℕ) (long : length out ≡ 64) where
   start : Written 64 out 0 []
   start = subst (λ (n : ℕ). Written n out 0 []) long (written-none out)
 
-  pub counts-line : (o₁ o₂ o₃ o₄ : List ℕ) (a₁ a₂ a₃ a₄ p q : ℕ) → (o₁, a₁) ≡ appended out 0 (decimal p) → (o₂, a₂) ≡ appended o₁ a₁ (32 ∷ []) → (o₃, a₃) ≡ appended o₂ a₂ (decimal q) → (o₄, a₄) ≡ appended o₃ a₃ (10 ∷ []) → Counts a₄ o₄ × (take a₄ o₄ ≡ line (given (p, q)))
+  pub counts-line : (o₁ o₂ o₃ o₄ : List ℕ) (a₁ a₂ a₃ a₄ p q : ℕ) →
+      (o₁, a₁) ≡ appended out 0 (decimal p) → (o₂, a₂) ≡ appended o₁ a₁ (32 ∷ []) →
+      (o₃, a₃) ≡ appended o₂ a₂ (decimal q) → (o₄, a₄) ≡ appended o₃ a₃ (10 ∷ []) →
+      Counts a₄ o₄ × (take a₄ o₄ ≡ line (given (p, q)))
   counts-line o₁ o₂ o₃ o₄ a₁ a₂ a₃ a₄ p q e₁ e₂ e₃ e₄ =
       let lp = spelled-short 20 p in
       let lq = spelled-short 20 q in
@@ -28,7 +31,9 @@ module _ (out : List ℕ) (long : length out ≡ 64) where
       let w₄ = written-more 64 o₃ o₄ (decimal p ++ (32 ∷ []) ++ decimal q) (10 ∷ []) a₃ a₄ (simp length-append (omega arith)) w₃ e₄ in
       (written-counts 64 o₄ a₄ _ w₄, w₄ .front)
 
-  pub refusal-line : (o₁ o₂ o₃ : List ℕ) (a₁ a₂ a₃ n : ℕ) → (o₁, a₁) ≡ appended out 0 word → (o₂, a₂) ≡ appended o₁ a₁ (decimal n) → (o₃, a₃) ≡ appended o₂ a₂ (10 ∷ []) → Counts a₃ o₃ × (take a₃ o₃ ≡ line (refused n))
+  pub refusal-line : (o₁ o₂ o₃ : List ℕ) (a₁ a₂ a₃ n : ℕ) →
+      (o₁, a₁) ≡ appended out 0 word → (o₂, a₂) ≡ appended o₁ a₁ (decimal n) → (o₃, a₃) ≡ appended o₂ a₂ (10 ∷ []) →
+      Counts a₃ o₃ × (take a₃ o₃ ≡ line (refused n))
   refusal-line o₁ o₂ o₃ a₁ a₂ a₃ n e₁ e₂ e₃ =
       let ln = spelled-short 20 n in
       let w₁ = written-more 64 out o₁ [] word 0 a₁ (omega arith) start e₁ in

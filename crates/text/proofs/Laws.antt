@@ -20,7 +20,9 @@ unfolding appended
 append-none out t at h = rw (lt-leb (at + length t) (length out) h)
 
 -- what fits is put by a copy into the part that begins at its place
-pub append-some : (out t p : List ℕ) (at r : ℕ) → at + length t ≤ length out → r ≡ length t → p ≡ take (length t) t ++ drop (length t) (midOf at (length out - at) out) → (putMid at (length out - at) out p, at + r) ≡ appended out at t
+pub append-some : (out t p : List ℕ) (at r : ℕ) → at + length t ≤ length out → r ≡ length t →
+    p ≡ take (length t) t ++ drop (length t) (midOf at (length out - at) out) →
+    (putMid at (length out - at) out p, at + r) ≡ appended out at t
 unfolding appended
 append-some out t p at r h e f = rw (le-leb (at + length t) (length out) h, e) (ap (λ (l : List ℕ). (take at out ++ l, at + length t)) whole)
   where
@@ -51,14 +53,15 @@ unfolding appended
 written-more n out o s t at r h w e =
     let fits : at + length t ≤ length out = omega (arith, w .long, w .end) in
     let f = rw (le-leb (at + length t) (length out) fits) at e in
-    let eo : o ≡ take at out ++ (t ++ drop (at + length t) out) = ap (λ (x : List ℕ × ℕ). x .0) f in
+    let rest = drop (at + length t) out in
+    let eo : o ≡ take at out ++ (t ++ rest) = ap (λ (x : List ℕ × ℕ). x .0) f in
     let er : r ≡ at + length t = ap (λ (x : List ℕ × ℕ). x .1) f in
-    let es : o ≡ (s ++ t) ++ drop (at + length t) out = eo ∙ ap (λ (l : List ℕ). l ++ (t ++ drop (at + length t) out)) (w .front) ∙ sym (append-assoc s t (drop (at + length t) out)) in
+    let es : o ≡ (s ++ t) ++ rest = eo ∙ ap (λ (l : List ℕ). l ++ (t ++ rest)) (w .front) ∙ sym (append-assoc s t rest) in
     let el : length (s ++ t) ≡ at + length t = length-append s t ∙ ap (λ (i : ℕ). i + length t) (sym (w .end)) in
     record {
       long = ap length es ∙ simp (length-append, length-drop) (omega (arith, w .long, el));
       end = er ∙ sym el;
-      front = ap₂ take (er ∙ sym el) es ∙ take-append-seam (s ++ t) (drop (at + length t) out);
+      front = ap₂ take (er ∙ sym el) es ∙ take-append-seam (s ++ t) rest;
     }
 
 -- as `io` counts bytes at the start of a slice
@@ -88,7 +91,8 @@ fewest-spelled (suc j) (suc (suc k)) n h f =
     let q = pow-suc 10 (suc k) in
     let o = one-le-pow k 10 (omega arith) in
     let g : Fewest 10 1 (n / 10) (suc k) = (omega arith, omega (arith, f .1), λ _. rw (suc-sub-one k) (omega arith)) in
-    rw (le-ltb n 10 (omega arith), lt-ltb (n % 10) 10 (omega arith)) (ap (λ (l : List ℕ). l ++ ((48 + n % 10) ∷ [])) (fewest-spelled j (suc k) (n / 10) (omega arith) g))
+    let front = fewest-spelled j (suc k) (n / 10) (omega arith) g in
+    rw (le-ltb n 10 (omega arith), lt-ltb (n % 10) 10 (omega arith)) (ap (λ (l : List ℕ). l ++ ((48 + n % 10) ∷ [])) front)
 
 -- a number below 10^20 has at most 20
 pub few-digits : (k n : ℕ) → n < 10 ^ 20 → Fewest 10 1 n k → k ≤ 20

@@ -74,13 +74,15 @@ returns-5 : tie.Need-returns-5
 returns-5 c =
     let f = c .before .before in
     let e = f .before .before in
-    simp (le-ltb maxMaskLevel (entry e .args .level) (low e), lt-leb _ _ (in-range e), eq-eqb _ _ (first (f .before)), eq-eqb _ _ (second f), sym (c .before .is-marked .ensures) ∙ c .if5 .taken)
+    let m = sym (c .before .is-marked .ensures) ∙ c .if5 .taken in
+    simp (le-ltb maxMaskLevel (entry e .args .level) (low e), lt-leb _ _ (in-range e), eq-eqb _ _ (first (f .before)), eq-eqb _ _ (second f), m)
 
 returns-6 : tie.Need-returns-6
 returns-6 c =
     let f = c .before .before in
     let e = f .before .before in
-    simp (le-ltb maxMaskLevel (entry e .args .level) (low e), lt-leb _ _ (in-range e), eq-eqb _ _ (first (f .before)), eq-eqb _ _ (second f), sym (c .before .is-marked .ensures) ∙ c .if5 .left)
+    let m = sym (c .before .is-marked .ensures) ∙ c .if5 .left in
+    simp (le-ltb maxMaskLevel (entry e .args .level) (low e), lt-leb _ _ (in-range e), eq-eqb _ _ (first (f .before)), eq-eqb _ _ (second f), m)
 
 pub fill-tests-spec : {M : Type 1} → statement M
 fill-tests-spec =

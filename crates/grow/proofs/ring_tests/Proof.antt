@@ -62,7 +62,8 @@ returns-4 : tie.Need-returns-4
 returns-4 c =
     let a = c .before .before .before .before .before .before .before .args in
     let us = badLength (4 ^ a .level) (a .out .now) ∷ badLength (4 ^ a .level) (a .work .now) ∷ badRings (a .rings) ∷ [] in
-    same-refusal (maskTests (a .level) (a .mask .now)) us done done _ (sym (ap saidMask (c .before .n .given .1)) ∙ c .before .before .before .is-mask .ensures)
+    let said = sym (ap saidMask (c .before .n .given .1)) ∙ c .before .before .before .is-mask .ensures in
+    same-refusal (maskTests (a .level) (a .mask .now)) us done done _ said
 
 returns-5 : tie.Need-returns-5
 returns-5 c =

@@ -33,8 +33,13 @@ written : (c : tie.After-copy) → c .copy .last .1 .0 ≡ entry c .args .mask .
 written c = let h = entry c .pre in copied _ (entry c .args .out .now) _ (h .1 ∙ sym (h .2)) (c .copy .ensures .1)
 
 -- what is turned is its complement, of the same length
-outside : (c : tie.After-complement) → let m = entry (first c) .args .mask .now in (i : ℕ) → i < 8 * length m → marked (c .complement .last .0) i ≡ not (marked m i)
-outside c = subst (λ (l : List ℕ). (i : ℕ) → i < 8 * length l → marked (c .complement .last .0) i ≡ not (marked l i)) (written (first c)) (complement-marks _ _ (c .complement .ensures))
+outside : (c : tie.After-complement) →
+    let m = entry (first c) .args .mask .now in
+    (i : ℕ) → i < 8 * length m → marked (c .complement .last .0) i ≡ not (marked m i)
+outside c = subst
+    (λ (l : List ℕ). (i : ℕ) → i < 8 * length l → marked (c .complement .last .0) i ≡ not (marked l i))
+    (written (first c))
+    (complement-marks _ _ (c .complement .ensures))
 
 long : (c : tie.After-complement) → length (c .complement .last .0) ≡ 4 ^ entry (first c) .args .level
 long c = c .complement .kept .0 ∙ ap length (written (first c)) ∙ entry (first c) .pre .1
@@ -61,15 +66,22 @@ same-length c = search needs
 same-length-2 : tie.Need-same-length-2
 same-length-2 c = search needs
 
+abbrev reached : tie.After-complement2 → tie.After-spread
+reached n = n .before .before .before .before .before .before
+
 returns : tie.Need-returns
 returns c =
-    let s = c .before .before .before .before .before .before .before .before in
+    let s = reached (c .before .before) in
     let d = turned (s .before .before .before .before .before) in
     let e = entry (first d) in
     let a = e .args in
     let n = c .before .before .complement2 in
     let l = s .spread .kept .1 .1 .0 ∙ long d in
-    (shrunk-bytes (a .level) (a .rings) (a .mask .now) _ _ _ (e .pre .1) l (n .kept .0 ∙ l) (λ i. c .slice-known8 .given i .fits) (outside d) (s .spread .ensures .0) (complement-marks _ _ (n .ensures)), s .spread .ensures .1)
+    let out = complement-marks _ _ (n .ensures) in (
+      shrunk-bytes (a .level) (a .rings) (a .mask .now) _ _ _ (e .pre .1) l (n .kept .0 ∙ l)
+          (λ i. c .slice-known8 .given i .fits) (outside d) (s .spread .ensures .0) out,
+      s .spread .ensures .1,
+    )
 
 pub shrink-into-spec : {M : Type 1} → statement M
 shrink-into-spec =

@@ -1,4 +1,5 @@
--- `first_lacking` meets its contract. The invariants: the bytes passed, and in the byte at hand the bits passed, lack no cell; `cell` is the next. The measures are the bytes and the bits that are left. Assumes nothing.
+-- `first_lacking` meets its contract. The invariants: the bytes passed, and in the byte at hand the bits passed, lack no cell; `cell` is the next.
+-- The measures are the bytes and the bits that are left. Assumes nothing.
 use Prim.Native.Nat.{ℕ, _≤_, _<_, _+_, _*_, _-_}
 use mathlib.Core.Path.{_≡_, refl}
 use mathlib.Core.Bool.{false}
@@ -60,12 +61,17 @@ loop-less c = omega arith
 
 loop-again : tie.Need-loop-again Inv-loop μ-loop Inv-bytes μ-bytes
 loop-again c =
-    let l = c .before .before .before .loop in
-    let i = c .before .before .before .before .before .bytes .i in
-    let x = c .before .before .before .before .before .before .args .a .now in
-    let y = c .before .before .before .before .before .before .args .b .now in
+    let t = c .before .before .before in
+    let l = t .loop in
+    let b = t .before .before in
+    let i = b .bytes .i in
+    let x = b .before .args .a .now in
+    let y = b .before .args .b .now in
     let h : l .j < 8 = omega arith in
-    let here : difference (marked x) (marked y) (l .cell) ≡ false = rw (l .inv .1) (⊎-elim (λ w. marked-too x y i (l .j) h (eqb-false _ _ (w .2 .left))) (λ w. unmarked x y i (l .j) h (w .left)) (c .if1 .came)) in
+    let here : difference (marked x) (marked y) (l .cell) ≡ false = rw (l .inv .1) (⊎-elim
+    (λ w. marked-too x y i (l .j) h (eqb-false _ _ (w .2 .left)))
+    (λ w. unmarked x y i (l .j) h (w .left))
+    (c .if1 .came)) in
     (omega arith, omega arith, below-more _ _ (l .inv .2) here)
 
 add-i : tie.Need-add-i Inv-loop μ-loop Inv-bytes μ-bytes
@@ -82,9 +88,11 @@ returns c = (c .before .bytes .inv .2, λ h. absurd (omega arith))
 
 returns-2 : tie.Need-returns-2 Inv-loop μ-loop Inv-bytes μ-bytes
 returns-2 c =
-    let l = c .before .before .before .before .before .loop in
-    let i = c .before .before .before .before .before .before .before .bytes .i in
-    let a = c .before .before .before .before .before .before .before .before .args in
+    let t = c .before .before .before .before .before in
+    let l = t .loop in
+    let b = t .before .before in
+    let i = b .bytes .i in
+    let a = b .before .args in
     (l .inv .2, λ h. rw (l .inv .1) (lacking (a .a .now) (a .b .now) i (l .j) (omega arith) (c .before .before .if1 .taken) (eqb-true _ _ (c .if2 .taken))))
 
 pub first-lacking-spec : {M : Type 1} → statement M

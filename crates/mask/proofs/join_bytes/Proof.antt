@@ -1,4 +1,5 @@
--- `join_bytes` meets its contract. The invariant: the bytes passed hold the bits of either mask, and the length is kept. The measure is what is left of the bytes. Assumes nothing.
+-- `join_bytes` meets its contract. The invariant: the bytes passed hold the bits of either mask, and the length is kept.
+-- The measure is what is left of the bytes. Assumes nothing.
 use Prim.Native.Nat.{ℕ, _≤_, _<_, _+_, _*_, _-_}
 use mathlib.Core.Path.{_≡_, refl}
 use native.Mathlib.Omega.{arith}
@@ -12,7 +13,9 @@ use Rattle.mask.proofs.join_bytes.Statement.{statement}
 use Rattle.mask.proofs.join_bytes.Tie as tie
 
 abbrev Inv-loop : tie.InvT-loop
-Inv-loop a b out₀ i₀ out i = (i ≤ length out) × (length out ≡ length out₀) × ((k : ℕ) → k < i → getD out k 0 ≡ bitsOf 8 (λ j. union (marked a) (marked b) (8 * k + j)))
+Inv-loop a b out₀ i₀ out i =
+    (i ≤ length out) × (length out ≡ length out₀)
+    × ((k : ℕ) → k < i → getD out k 0 ≡ bitsOf 8 (λ j. union (marked a) (marked b) (8 * k + j)))
 
 abbrev μ-loop : tie.MeasureT-loop
 μ-loop a b out₀ i₀ out i = length out - i
@@ -41,7 +44,8 @@ loop-again c =
     let x = c .before .before .before .before .args .a .now in
     let y = c .before .before .before .before .args .b .now in
     let e = either x y (l .i) (c .before .shared-slice-known .given (l .i) .fits) (c .shared-slice-known2 .given (l .i) .fits) in
-    (simp length-set (omega arith), simp length-set (l .inv .1), fill-more (λ k. bitsOf 8 (λ j. union (marked x) (marked y) (8 * k + j))) (l .out) (l .i) _ (omega arith) (l .inv .2) e)
+    let more = fill-more (λ k. bitsOf 8 (λ j. union (marked x) (marked y) (8 * k + j))) (l .out) (l .i) _ (omega arith) (l .inv .2) e in
+    (simp length-set (omega arith), simp length-set (l .inv .1), more)
 
 same-length : tie.Need-same-length Inv-loop μ-loop
 same-length c = c .before .loop .inv .1

@@ -1,4 +1,5 @@
--- `sum_ones` meets its contract. The invariant: the sum is the number of marked cells of the bytes passed. The measure is what is left of the bytes. Assumes nothing.
+-- `sum_ones` meets its contract. The invariant: the sum is the number of marked cells of the bytes passed.
+-- The measure is what is left of the bytes. Assumes nothing.
 use Prim.Native.Nat.{suc, _≤_, _+_, _*_, _-_}
 use mathlib.Core.Path.{_≡_, refl, sym}
 use native.Mathlib.Numerals.{add-one}
@@ -24,7 +25,10 @@ shared-slice-read-sum : tie.Need-shared-slice-read-sum Inv-loop μ-loop
 shared-slice-read-sum c = omega arith
 
 -- with the ones of one byte more the sum is that of the bytes up to it
-one-more : (c : tie.After-shared-slice-known Inv-loop μ-loop) → c .before .before .loop .sum + ones (getD (c .before .before .before .args .mask .now) (c .before .before .loop .i) 0) ≡ size (8 * suc (c .before .before .loop .i)) (marked (c .before .before .before .args .mask .now))
+one-more : (c : tie.After-shared-slice-known Inv-loop μ-loop) →
+    let l = c .before .before .loop in
+    let s = c .before .before .before .args .mask .now in
+    l .sum + ones (getD s (l .i) 0) ≡ size (8 * suc (l .i)) (marked s)
 one-more c =
     let l = c .before .before .loop in
     let s = c .before .before .before .args .mask .now in

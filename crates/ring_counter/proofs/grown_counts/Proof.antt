@@ -50,7 +50,10 @@ returns c =
     let t = c .before .before .before .before in
     let g = t .before .before .before .before in
     let a = entry g .args in
-    both-counted (a .rings) (a .mask .now) (replicate 1024 0) (replicate 1024 0) (long g) refl refl _ _ _ _ (told (t .enum-told .given .1) (g .grow .ensures)) (c .before .before .marked-cells .ensures) (c .marked-cells2 .ensures)
+    both-counted (a .rings) (a .mask .now) (replicate 1024 0) (replicate 1024 0) (long g) refl refl _ _ _ _
+    (told (t .enum-told .given .1) (g .grow .ensures))
+    (c .before .before .marked-cells .ensures)
+    (c .marked-cells2 .ensures)
 
 returns-2 : tie.Need-returns-2
 returns-2 c =

@@ -31,10 +31,15 @@ shared-slice-read-grown-counts c = search needs
 grown-counts-requires : tie.Need-grown-counts-requires
 grown-counts-requires c κs = search needs
 
+abbrev entry : tie.After-copy → tie.Start
+entry p = p .before .before .before .before .before
+
 returns-2 : tie.Need-returns-2
 returns-2 c =
-    let a = c .before .before .before .before .before .before .before .before .before .args in
-    right-length (a .input .now) _ _ (omega arith) (mask-copied (a .input .now) (replicate 1024 0) _ (omega arith) refl (c .before .before .before .before .copy .ensures .1)) (c .grown-counts .ensures)
+    let p = c .before .before .before .before in
+    let i = entry p .args .input .now in
+    let m = mask-copied i (replicate 1024 0) _ (omega arith) refl (p .copy .ensures .1) in
+    right-length i _ _ (omega arith) m (c .grown-counts .ensures)
 
 pub outcome-of-spec : {M : Type 1} → statement M
 outcome-of-spec =

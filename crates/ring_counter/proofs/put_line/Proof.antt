@@ -68,7 +68,12 @@ returns c =
     let d₁ = t₁ .before .before .before in
     let o = d₁ .before .before .before in
     let e = o .before .before in
-    rw (o .outcome .given .1) (counts-line (e .args .out .now) (room (d₁ .before)) _ _ _ _ _ _ _ _ _ _ (d₁ .append-decimal .ensures) (t₁ .append .ensures) (d₂ .append-decimal2 .ensures) (c .append2 .ensures))
+    rw (o .outcome .given .1)
+    (counts-line (e .args .out .now) (room (d₁ .before)) _ _ _ _ _ _ _ _ _ _
+    (d₁ .append-decimal .ensures)
+    (t₁ .append .ensures)
+    (d₂ .append-decimal2 .ensures)
+    (c .append2 .ensures))
 
 returns-2 : tie.Need-returns-2
 returns-2 c =
@@ -76,7 +81,11 @@ returns-2 c =
     let t = d .before .before in
     let o = t .before .before .before .before in
     let e = o .before .before in
-    rw (o .outcome2 .given .1) (refusal-line (e .args .out .now) (room-2 (t .before .before)) _ _ _ _ _ _ _ (t .append3 .ensures) (d .append-decimal3 .ensures) (c .append4 .ensures))
+    rw (o .outcome2 .given .1)
+    (refusal-line (e .args .out .now) (room-2 (t .before .before)) _ _ _ _ _ _ _
+    (t .append3 .ensures)
+    (d .append-decimal3 .ensures)
+    (c .append4 .ensures))
 
 pub put-line-spec : {M : Type 1} → statement M
 put-line-spec =

@@ -6,7 +6,7 @@ use Rattle.text.proofs.append.Statement.{statement}
 use Rattle.text.proofs.append.Tie as tie
 
 returns : tie.Need-returns
-returns c = append-none (c .before .before .before .args .out .now) (c .before .before .before .args .text .now) (c .before .before .before .args .at) (omega arith)
+returns c = let a = c .before .before .before .args in append-none (a .out .now) (a .text .now) (a .at) (omega arith)
 
 sub-if2 : tie.Need-sub-if2
 sub-if2 c = search needs
@@ -32,10 +32,14 @@ add-result c = search needs
 same-length : tie.Need-same-length
 same-length c = search needs
 
+abbrev entry : tie.After-copy → tie.Start
+entry p = p .before .before .before .before .before .before
+
 returns-3 : tie.Need-returns-3
 returns-3 c =
-    let a = c .before .before .before .before .before .before .before .before .args in
-    append-some (a .out .now) (a .text .now) _ (a .at) _ (omega arith) (c .before .before .copy .ensures .0) (c .before .before .copy .ensures .1)
+    let p = c .before .before in
+    let a = entry p .args in
+    append-some (a .out .now) (a .text .now) _ (a .at) _ (omega arith) (p .copy .ensures .0) (p .copy .ensures .1)
 
 pub append-spec : {M : Type 1} → statement M
 append-spec =

@@ -22,11 +22,16 @@ append-requires c κs = search needs
 same-length : tie.Need-same-length
 same-length c = search needs
 
+abbrev entry : tie.After-decimal → tie.Start
+entry d = d .before .before .before
+
 returns : tie.Need-returns
 returns c =
-    let a = c .before .before .before .before .before .before .before .before .args in
     let d = c .before .before .before .before .before in
-    c .before .before .append .ensures ∙ ap (appended (a .out .now) (a .at)) (d .decimal .ensures .1 .1 ∙ fewest-spelled 20 _ (a .n) (few-digits _ (a .n) (omega arith) (d .decimal .ensures .1 .0)) (d .decimal .ensures .1 .0))
+    let a = entry d .args in
+    let f = d .decimal .ensures .1 in
+    let few = few-digits _ (a .n) (omega arith) (f .0) in
+    c .before .before .append .ensures ∙ ap (appended (a .out .now) (a .at)) (f .1 ∙ fewest-spelled 20 _ (a .n) few (f .0))
 
 pub append-decimal-spec : {M : Type 1} → statement M
 append-decimal-spec =

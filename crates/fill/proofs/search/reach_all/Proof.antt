@@ -51,7 +51,8 @@ loop-holds c =
     let cleared = d .clear .ensures in
     let out = m .mark .ensures ∙ ap (λ (l : List ℕ). marking l (a .outside)) cleared in
     let long : length zeros ≡ 4 ^ a .level = length-replicate (length (a .out .now)) 0 ∙ e .pre .1 in
-    let alone : (i : ℕ) → marked (marking zeros (a .outside)) i ≡ eqb (a .outside) i = λ i. marked-marking zeros (a .outside) i (omega (arith, e .pre .2, long)) ∙ rw (marked-zeros (length (a .out .now)) i) in (
+    let alone : (i : ℕ) → marked (marking zeros (a .outside)) i ≡ eqb (a .outside) i = λ i.
+    marked-marking zeros (a .outside) i (omega (arith, e .pre .2, long)) ∙ rw (marked-zeros (length (a .out .now)) i) in (
       all-cells (a .level) (e .pre .0),
       ap length out ∙ marking-long zeros (a .outside) ∙ long,
       refl,
@@ -59,53 +60,57 @@ loop-holds c =
       search-start (a .level) (a .outside) (a .border .now) (e .pre .2) _ _ (λ i. ap (λ (l : List ℕ). marked l i) out ∙ alone i) (λ i. marked-zeros 65536 i),
     )
 
+abbrev entry : tie.At-loop Inv-loop μ-loop → tie.Start Inv-loop μ-loop
+entry l = l .before .before .before .before .before .before .before .before .before .before .before
+
 visit-requires : tie.Need-visit-requires Inv-loop μ-loop
 visit-requires c κs =
-    let l = c .before .before .before .loop in
-    let e = c .before .before .before .before .before .before .before .before .before .before .before .before .before .before in
-    (e .pre .0, l .inv .1, omega (arith, l .inv .0))
+    let l = c .before .before .before in
+    (entry l .pre .0, l .loop .inv .1, omega (arith, l .loop .inv .0))
 
 abbrev looped : tie.After-visit Inv-loop μ-loop → tie.At-loop Inv-loop μ-loop
 looped v = v .before .before .before .before
 
-abbrev entry : tie.After-visit Inv-loop μ-loop → tie.Start Inv-loop μ-loop
-entry v = looped v .before .before .before .before .before .before .before .before .before .before .before
-
-inside : (v : tie.After-visit Inv-loop μ-loop) → looped v .loop .cell < cells (entry v .args .level)
+inside : (v : tie.After-visit Inv-loop μ-loop) → looped v .loop .cell < cells (entry (looped v) .args .level)
 inside v = omega (arith, looped v .loop .inv .0)
 
-room : (v : tie.After-visit Inv-loop μ-loop) → cells (entry v .args .level) ≤ 8 * length (looped v .loop .seen)
-room v = omega (arith, looped v .loop .inv .2, mask-small (entry v .args .level) (entry v .pre .0))
+room : (v : tie.After-visit Inv-loop μ-loop) → cells (entry (looped v) .args .level) ≤ 8 * length (looped v .loop .seen)
+room v = let e = entry (looped v) in omega (arith, looped v .loop .inv .2, mask-small (e .args .level) (e .pre .0))
 
 loop-less : tie.Need-loop-less Inv-loop μ-loop
 loop-less c =
     let v = c .before .before in
-    let l = looped v in
-    let e = entry v in
-    less-left (e .args .level) (e .args .outside) (e .args .border .now) (l .loop .out) (l .loop .seen) _ _ (l .loop .cell) _ (v .visit .ensures) (e .pre .2) (inside v) (room v) (l .loop .inv .4)
+    let l = looped v .loop in
+    let e = entry (looped v) in
+    let a = e .args in
+    less-left (a .level) (a .outside) (a .border .now) (l .out) (l .seen) _ _ (l .cell) _ (v .visit .ensures)
+    (e .pre .2) (inside v) (room v) (l .inv .4)
 
 loop-again : tie.Need-loop-again Inv-loop μ-loop
 loop-again c =
     let v = c .before .before in
-    let l = looped v in
-    let e = entry v in (
-      l .loop .inv .0,
-      v .visit .kept .1 .1 .1 .0 ∙ l .loop .inv .1,
-      visited-long (e .args .level) (e .args .outside) (e .args .border .now) (l .loop .out) (l .loop .seen) _ _ (l .loop .cell) _ (v .visit .ensures) ∙ l .loop .inv .2,
+    let l = looped v .loop in
+    let e = entry (looped v) in
+    let a = e .args in (
+      l .inv .0,
+      v .visit .kept .1 .1 .1 .0 ∙ l .inv .1,
+      visited-long (a .level) (a .outside) (a .border .now) (l .out) (l .seen) _ _ (l .cell) _ (v .visit .ensures) ∙ l .inv .2,
       (λ i. c .slice-known4 .given i .fits),
-      search-more (e .args .level) (e .args .outside) (e .args .border .now) (l .loop .out) (l .loop .seen) _ _ (l .loop .cell) _ (v .visit .ensures) (e .pre .2) (inside v) (room v) (l .loop .inv .4),
+      search-more (a .level) (a .outside) (a .border .now) (l .out) (l .seen) _ _ (l .cell) _ (v .visit .ensures)
+          (e .pre .2) (inside v) (room v) (l .inv .4),
     )
 
 same-length : tie.Need-same-length Inv-loop μ-loop
-same-length c = c .before .loop .inv .1 ∙ sym (c .before .before .before .before .before .before .before .before .before .before .before .before .pre .1)
+same-length c = c .before .loop .inv .1 ∙ sym (entry (c .before) .pre .1)
 
 returns : tie.Need-returns Inv-loop μ-loop
 returns c =
     let l = c .before .loop in
-    let e = c .before .before .before .before .before .before .before .before .before .before .before .before in
+    let e = entry (c .before) in
     let a = e .args in
     let end : l .cell ≡ cells (a .level) = omega (arith, l .inv .0, l .inv .4 .limit) in
-    search-ends (a .level) (a .outside) (a .border .now) (e .pre .2) (l .out) (l .seen) (subst (Search (a .level) (a .outside) (a .border .now) (l .out) (l .seen)) end (l .inv .4)) (l .inv .1) (l .inv .3)
+    let s = subst (Search (a .level) (a .outside) (a .border .now) (l .out) (l .seen)) end (l .inv .4) in
+    search-ends (a .level) (a .outside) (a .border .now) (e .pre .2) (l .out) (l .seen) s (l .inv .1) (l .inv .3)
 
 pub reach-all-spec : {M : Type 1} → statement M
 reach-all-spec =

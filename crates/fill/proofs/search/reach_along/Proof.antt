@@ -18,13 +18,16 @@ returns : tie.Need-returns
 unfolding direct
 returns c =
     let a = c .before .before .before .args in
-    opened-none (a .level) (a .border .now) (along (a .level) (a .cell) (a .code)) (a .out .now) (a .low) (λ d h p q. clash q (along-other (a .level) (a .cell) (a .code) d (ap direct (c .if1 .taken))))
+    opened-none (a .level) (a .border .now) (along (a .level) (a .cell) (a .code)) (a .out .now) (a .low)
+    (λ d h p q. clash q (along-other (a .level) (a .cell) (a .code) d (ap direct (c .if1 .taken))))
 
 returns-2 : tie.Need-returns-2
 unfolding direct
 returns-2 c =
     let a = c .before .before .before .before .args in
-    opened-none (a .level) (a .border .now) (along (a .level) (a .cell) (a .code)) (a .out .now) (a .low) (λ d h p q. clash q (along-other (a .level) (a .cell) (a .code) d (ap direct (let w : a .code ≡ 4 = omega arith in w))))
+    let four : a .code ≡ 4 = omega arith in
+    opened-none (a .level) (a .border .now) (along (a .level) (a .cell) (a .code)) (a .out .now) (a .low)
+    (λ d h p q. clash q (along-other (a .level) (a .cell) (a .code) d (ap direct four)))
 
 step-along-requires : tie.Need-step-along-requires
 step-along-requires c κs = search needs
@@ -58,13 +61,16 @@ returns-3 c =
     let a = entry n .args in
     let s = n .before .before .before in
     let d = is-direct (a .level) (a .cell) (a .code) _ (λ e. omega arith) (λ e. omega arith) (leads n) in
-    opened-same (a .level) (a .border .now) (eqb (n .next .given .0 .0)) (along (a .level) (a .cell) (a .code)) (a .out .now) _ (a .low) _ (λ e h. along-to (a .level) (a .cell) (a .code) _ d (leads n) e) (r .reach-one .ensures)
+    opened-same (a .level) (a .border .now) (eqb (n .next .given .0 .0)) (along (a .level) (a .cell) (a .code)) (a .out .now) _ (a .low) _
+    (λ e h. along-to (a .level) (a .cell) (a .code) _ d (leads n) e)
+    (r .reach-one .ensures)
 
 returns-4 : tie.Need-returns-4
 returns-4 c =
     let a = c .before .before .before .before .before .before .before .args in
     let r = sym (c .before .before .step-along .ensures) ∙ ap saidStep (c .enum-told .given .1) in
-    opened-none (a .level) (a .border .now) (along (a .level) (a .cell) (a .code)) (a .out .now) (a .low) (λ d h p q. clash q (along-refused (a .level) (a .cell) (a .code) _ d r))
+    opened-none (a .level) (a .border .now) (along (a .level) (a .cell) (a .code)) (a .out .now) (a .low)
+    (λ d h p q. clash q (along-refused (a .level) (a .cell) (a .code) _ d r))
 
 pub reach-along-spec : {M : Type 1} → statement M
 reach-along-spec =

@@ -22,7 +22,8 @@ returns : tie.Need-returns
 returns c =
     let a = c .before .before .before .before .args in
     let m = sym (c .before .is-marked .ensures) ∙ c .if1 .taken in
-    opened-none (a .level) (a .border .now) (eqb (a .cell)) (a .out .now) (a .low) (λ d h p q. clash (ap (marked (a .border .now)) (sym (eqb-true (a .cell) d q)) ∙ m) p)
+    opened-none (a .level) (a .border .now) (eqb (a .cell)) (a .out .now) (a .low)
+    (λ d h p q. clash (ap (marked (a .border .now)) (sym (eqb-true (a .cell) d q)) ∙ m) p)
 
 is-marked-requires-2 : tie.Need-is-marked-requires-2
 is-marked-requires-2 c κs = search needs
@@ -55,7 +56,8 @@ returns-3 : tie.Need-returns-3
 returns-3 c =
     let m = c .before .before .before in
     let a = entry m .args in
-    subst (λ (l : List ℕ). Opened (a .level) (eqb (a .cell)) (a .border .now) (a .out .now) l (a .low) (a .cell)) (sym (m .mark .ensures)) (opened-low (a .level) (a .border .now) (a .cell) (a .out .now) (unmarked m) (here m) (a .low) (omega arith))
+    subst (λ (l : List ℕ). Opened (a .level) (eqb (a .cell)) (a .border .now) (a .out .now) l (a .low) (a .cell)) (sym (m .mark .ensures))
+    (opened-low (a .level) (a .border .now) (a .cell) (a .out .now) (unmarked m) (here m) (a .low) (omega arith))
 
 same-length-3 : tie.Need-same-length-3
 same-length-3 c = search needs
@@ -64,7 +66,8 @@ returns-4 : tie.Need-returns-4
 returns-4 c =
     let m = c .before .before .before in
     let a = entry m .args in
-    subst (λ (l : List ℕ). Opened (a .level) (eqb (a .cell)) (a .border .now) (a .out .now) l (a .low) (a .low)) (sym (m .mark .ensures)) (opened-high (a .level) (a .border .now) (a .cell) (a .out .now) (unmarked m) (here m) (a .low) (omega arith))
+    subst (λ (l : List ℕ). Opened (a .level) (eqb (a .cell)) (a .border .now) (a .out .now) l (a .low) (a .low)) (sym (m .mark .ensures))
+    (opened-high (a .level) (a .border .now) (a .cell) (a .out .now) (unmarked m) (here m) (a .low) (omega arith))
 
 pub reach-one-spec : {M : Type 1} → statement M
 reach-one-spec =

@@ -50,15 +50,18 @@ returns-2 c =
 is-marked-requires-2 : tie.Need-is-marked-requires-2
 is-marked-requires-2 c κs = search needs
 
+abbrev entry : tie.After-is-marked2 → tie.Start
+entry m = m .before .before .before .before .before .before .before .before .before
+
 add-result-3 : tie.Need-add-result-3
-add-result-3 c = omega (arith, small (c .before .before .before .before .before .before .before .before .before .before))
+add-result-3 c = omega (arith, small (entry (c .before)))
 
 same-length-2 : tie.Need-same-length-2
 same-length-2 c = search needs
 
 returns-3 : tie.Need-returns-3
 returns-3 c =
-    let e = c .before .before .before .before .before .before .before .before .before .before in
+    let e = entry (c .before) in
     let m = sym (c .before .is-marked2 .ensures) ∙ c .if4 .taken in
     inl (passed-one (e .args .level) (e .args .out .now) (e .args .seen .now) (e .args .cell) (e .pre .2) (λ p. m))
 

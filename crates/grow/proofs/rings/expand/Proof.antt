@@ -22,20 +22,31 @@ touching-cells-requires c κs = search needs
 enum-known-count : tie.Need-enum-known-count
 enum-known-count c = search needs
 
+abbrev entry : tie.After-touching-cells → tie.Start
+entry c = c .before .before .before .before
+
+abbrev near : tie.After-touching-cells → List ℕ
+near c = touching (entry c .args .level) (entry c .args .cell)
+
 -- what `touching_cells` said: level and cell are in range
-answered : (c : tie.After-touching-cells) → _≡_ {A = Answer ℕ × List ℕ} (saidList (c .touching-cells .result), c .touching-cells .last .1 .1 .0) (given (length (touching (c .before .before .before .before .args .level) (c .before .before .before .before .args .cell))), padded (touching (c .before .before .before .before .args .level) (c .before .before .before .before .args .cell)))
+answered : (c : tie.After-touching-cells) →
+    let t = c .touching-cells in
+    _≡_ {A = Answer ℕ × List ℕ} (saidList (t .result), t .last .1 .1 .0) (given (length (near c)), padded (near c))
 answered c =
-    let a = c .before .before .before .before .args in
-    let h = c .before .before .before .before .pre in
-    c .touching-cells .ensures ∙ list-answer (a .level) (a .cell) (replicate 12 0) (omega arith) (h .1) refl
+    let a = entry c .args in
+    c .touching-cells .ensures ∙ list-answer (a .level) (a .cell) (replicate 12 0) (omega arith) (entry c .pre .1) refl
+
+-- so it counted the touching cells
+counted : (c : tie.After-count) → c .count .given .0 .0 ≡ length (near (c .before .before .before))
+counted c = given-same (sym (ap saidList (c .count .given .1)) ∙ ap (λ (g : Answer ℕ × List ℕ). g .0) (answered (c .before .before .before)))
 
 mark-unreached-requires : tie.Need-mark-unreached-requires
 mark-unreached-requires c κs =
     let d = c .before .before .before .before .before .before in
-    let a = d .before .before .before .before .args in
-    let n = given-same (sym (ap saidList (c .before .before .before .count .given .1)) ∙ ap (λ (g : Answer ℕ × List ℕ). g .0) (answered d)) in
+    let a = entry d .args in
+    let n = counted (c .before .before .before) in
     let l = ap (λ (g : Answer ℕ × List ℕ). g .1) (answered d) in
-    let h = d .before .before .before .before .pre in (
+    let h = entry d .pre in (
       omega (arith, touching-few (a .level) (a .cell) (h .1)),
       λ i u. rw l (omega (arith, listed-below (a .level) (a .cell) i (omega arith), h .2)),
     )
@@ -48,14 +59,17 @@ same-length c = search needs
 
 returns : tie.Need-returns
 returns c x u =
-    let d = c .before .before .before .before .before .before .before .before .before in
-    let a = d .before .before .before .before .args in
-    let n = given-same (sym (ap saidList (c .before .before .before .before .before .before .count .given .1)) ∙ ap (λ (g : Answer ℕ × List ℕ). g .0) (answered d)) in
+    let r = c .before .before .before .before .before .before in
+    let d = r .before .before .before in
+    let a = entry d .args in
+    let n = counted r in
     let l = ap (λ (g : Answer ℕ × List ℕ). g .1) (answered d) in
     c .before .before .mark-unreached .ensures x ∙ rw (l, n, listed-touching (a .level) (a .cell) x u)
 
 returns-2 : tie.Need-returns-2
-returns-2 c x u = given≢refused (sym (sym (ap saidList (c .enum-told .given .1)) ∙ ap (λ (g : Answer ℕ × List ℕ). g .0) (answered (c .before .before .before))))
+returns-2 c x u =
+    let said = ap (λ (g : Answer ℕ × List ℕ). g .0) (answered (c .before .before .before)) in
+    given≢refused (sym (sym (ap saidList (c .enum-told .given .1)) ∙ said))
 
 pub expand-spec : {M : Type 1} → statement M
 expand-spec =

@@ -15,7 +15,9 @@ same-length : tie.Need-same-length
 same-length c = search needs
 
 returns : tie.Need-returns
-returns c = rw (sym (c .before .before .before .before .before .is-marked .ensures) ∙ not-true _ (c .before .before .before .before .if1 .taken)) (c .before .before .mark .ensures)
+returns c =
+    let t = c .before .before .before .before in
+    rw (sym (t .before .is-marked .ensures) ∙ not-true _ (t .if1 .taken)) (c .before .before .mark .ensures)
 
 returns-2 : tie.Need-returns-2
 returns-2 c = rw (sym (c .before .is-marked .ensures) ∙ not-false _ (c .if1 .left))

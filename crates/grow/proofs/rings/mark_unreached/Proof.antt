@@ -19,6 +19,9 @@ abbrev μ-loop : tie.MeasureT-loop
 loop-holds : tie.Need-loop-holds Inv-loop μ-loop
 loop-holds c = (omega arith, refl, none-listed (c .before .before .args .list .now) (c .before .before .args .out .now) (c .before .before .args .work .now))
 
+abbrev entry : tie.At-loop Inv-loop μ-loop → tie.Start Inv-loop μ-loop
+entry t = t .before .before .before
+
 cast-cell : tie.Need-cast-cell Inv-loop μ-loop
 cast-cell c = omega arith
 
@@ -39,12 +42,16 @@ loop-less c = omega arith
 
 loop-again : tie.Need-loop-again Inv-loop μ-loop
 loop-again c =
-    let a = c .before .before .before .before .before .before .before .before .before .args in
-    let l = c .before .before .before .before .before .before .loop in
-    let h : getD (a .list .now) (l .i) 0 < 8 * length (l .work) = omega (arith, c .before .before .before .before .before .before .before .before .before .pre .1 (l .i) (c .before .before .before .before .before .loop-test .taken), l .inv .1) in (
+    let t = c .before .before .before .before .before in
+    let e = entry (t .before) in
+    let a = e .args in
+    let l = t .before .loop in
+    let m = c .before .before .mark-one in
+    let h : getD (a .list .now) (l .i) 0 < 8 * length (l .work) = omega (arith, e .pre .1 (l .i) (t .loop-test .taken), l .inv .1) in
+    let more = more-listed (a .list .now) (a .out .now) (a .work .now) (l .work) (l .i) h (l .inv .2) in (
       omega arith,
-      c .before .before .mark-one .kept .1 .1 .0 ∙ l .inv .1,
-      subst (λ (t : List ℕ). Marked (a .list .now) (a .out .now) (a .work .now) t (l .i + 1)) (sym (c .before .before .mark-one .ensures)) (more-listed (a .list .now) (a .out .now) (a .work .now) (l .work) (l .i) h (l .inv .2)),
+      m .kept .1 .1 .0 ∙ l .inv .1,
+      subst (λ (w : List ℕ). Marked (a .list .now) (a .out .now) (a .work .now) w (l .i + 1)) (sym (m .ensures)) more,
     )
 
 same-length : tie.Need-same-length Inv-loop μ-loop
@@ -53,8 +60,9 @@ same-length c = c .before .loop .inv .1
 returns : tie.Need-returns Inv-loop μ-loop
 returns c =
     let l = c .before .loop in
-    let e : l .i ≡ c .before .before .before .before .args .count = omega arith in
-    subst (Marked (c .before .before .before .before .args .list .now) (c .before .before .before .before .args .out .now) (c .before .before .before .before .args .work .now) (l .work)) e (l .inv .2)
+    let a = entry (c .before) .args in
+    let e : l .i ≡ a .count = omega arith in
+    subst (Marked (a .list .now) (a .out .now) (a .work .now) (l .work)) e (l .inv .2)
 
 pub mark-unreached-spec : {M : Type 1} → statement M
 mark-unreached-spec =

@@ -17,8 +17,13 @@ abbrev μ-loop : tie.MeasureT-loop
 loop-holds : tie.Need-loop-holds Inv-loop μ-loop
 loop-holds c = (omega arith, refl, scanned-none (c .before .before .args .level) (c .before .before .args .out .now) (c .before .before .args .work .now) 0)
 
+abbrev entry : tie.At-loop Inv-loop μ-loop → tie.Start Inv-loop μ-loop
+entry t = t .before .before .before
+
 scan-or-skip-requires : tie.Need-scan-or-skip-requires Inv-loop μ-loop
-scan-or-skip-requires c κs = (c .before .before .before .before .before .pre .0, omega arith, c .before .before .loop .inv .1 ∙ c .before .before .before .before .before .pre .2)
+scan-or-skip-requires c κs =
+    let t = c .before .before in
+    (entry t .pre .0, omega arith, t .loop .inv .1 ∙ entry t .pre .2)
 
 add-i : tie.Need-add-i Inv-loop μ-loop
 add-i c = omega arith
@@ -28,14 +33,17 @@ loop-less c = omega arith
 
 loop-again : tie.Need-loop-again Inv-loop μ-loop
 loop-again c =
-    let a = c .before .before .before .before .before .before .before .before .args in
-    let l = c .before .before .before .before .before .loop in
+    let t = c .before .before .before .before .before in
+    let a = entry t .args in
+    let l = t .loop in
+    let s = c .before .before .scan-or-skip in
     let more : 8 * l .i + 8 ≡ 8 * (l .i + 1) = omega arith in
     let from : 0 + 8 * l .i ≡ 8 * l .i = omega arith in
-    let v = subst (λ (f : ℕ). Scanned (a .level) (a .out .now) (l .work) (c .before .before .scan-or-skip .last .1 .1 .1 .0) f 8) (sym from) (c .before .before .scan-or-skip .ensures) in (
+    let v = subst (λ (f : ℕ). Scanned (a .level) (a .out .now) (l .work) (s .last .1 .1 .1 .0) f 8) (sym from) (s .ensures) in
+    let w = scanned-join (a .level) (a .out .now) (a .work .now) (l .work) _ 0 (8 * l .i) 8 (omega arith) (l .inv .2) v in (
       omega arith,
-      c .before .before .scan-or-skip .kept .1 .1 .1 .0 ∙ l .inv .1,
-      subst (Scanned (a .level) (a .out .now) (a .work .now) _ 0) more (scanned-join (a .level) (a .out .now) (a .work .now) (l .work) _ 0 (8 * l .i) 8 (omega arith) (l .inv .2) v),
+      s .kept .1 .1 .1 .0 ∙ l .inv .1,
+      subst (Scanned (a .level) (a .out .now) (a .work .now) _ 0) more w,
     )
 
 same-length : tie.Need-same-length Inv-loop μ-loop
@@ -43,7 +51,7 @@ same-length c = c .before .loop .inv .1
 
 returns : tie.Need-returns Inv-loop μ-loop
 returns c =
-    let a = c .before .before .before .before .args in
+    let a = entry (c .before) .args in
     let l = c .before .loop in
     let e : 8 * l .i ≡ 8 * 4 ^ a .level = omega arith in
     subst (Scanned (a .level) (a .out .now) (a .work .now) (l .work) 0) e (l .inv .2)

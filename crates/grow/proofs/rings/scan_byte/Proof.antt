@@ -16,11 +16,16 @@ abbrev μ-loop : tie.MeasureT-loop
 μ-loop level byte out work₀ j₀ work j = 8 - j
 
 loop-holds : tie.Need-loop-holds Inv-loop μ-loop
-loop-holds c = (omega arith, refl, scanned-none (c .before .before .args .level) (c .before .before .args .out .now) (c .before .before .args .work .now) (8 * c .before .before .args .byte))
+loop-holds c =
+    let a = c .before .before .args in
+    (omega arith, refl, scanned-none (a .level) (a .out .now) (a .work .now) (8 * a .byte))
+
+abbrev entry : tie.At-loop Inv-loop μ-loop → tie.Start Inv-loop μ-loop
+entry t = t .before .before .before
 
 -- a mask has at most 65,536 bytes
-byte-small : (c : tie.In-loop Inv-loop μ-loop) → c .before .before .before .before .args .byte < 65536
-byte-small c = omega (arith, mask-small (c .before .before .before .before .args .level) (c .before .before .before .before .pre .0))
+byte-small : (c : tie.In-loop Inv-loop μ-loop) → entry (c .before) .args .byte < 65536
+byte-small c = omega (arith, mask-small (entry (c .before) .args .level) (entry (c .before) .pre .0))
 
 mul-visit : tie.Need-mul-visit Inv-loop μ-loop
 mul-visit c = omega (arith, byte-small c)
@@ -29,7 +34,9 @@ add-visit : tie.Need-add-visit Inv-loop μ-loop
 add-visit c = omega (arith, byte-small c)
 
 visit-requires : tie.Need-visit-requires Inv-loop μ-loop
-visit-requires c κs = (c .before .before .before .before .before .pre .0, omega arith, c .before .before .loop .inv .1 ∙ c .before .before .before .before .before .pre .2)
+visit-requires c κs =
+    let t = c .before .before in
+    (entry t .pre .0, omega arith, t .loop .inv .1 ∙ entry t .pre .2)
 
 add-j : tie.Need-add-j Inv-loop μ-loop
 add-j c = omega arith
@@ -39,8 +46,9 @@ loop-less c = omega arith
 
 loop-again : tie.Need-loop-again Inv-loop μ-loop
 loop-again c =
-    let a = c .before .before .before .before .before .before .before .before .args in
-    let l = c .before .before .before .before .before .loop in
+    let t = c .before .before .before .before .before in
+    let a = entry t .args in
+    let l = t .loop in
     let v = scanned-one (a .level) (a .out .now) (l .work) _ (8 * a .byte + l .j) (c .before .before .visit .ensures) in (
       omega arith,
       c .before .before .visit .kept .1 .1 .1 .0 ∙ l .inv .1,
@@ -52,7 +60,7 @@ same-length c = c .before .loop .inv .1
 
 returns : tie.Need-returns Inv-loop μ-loop
 returns c =
-    let a = c .before .before .before .before .args in
+    let a = entry (c .before) .args in
     let l = c .before .loop in
     let e : l .j ≡ 8 = omega arith in
     subst (Scanned (a .level) (a .out .now) (a .work .now) (l .work) (8 * a .byte)) e (l .inv .2)

@@ -1,4 +1,5 @@
--- `settle` meets its contract. The invariant: the first `i` bytes of both masks are settled, the others as they were. The measure is what is left of the length. Assumes nothing.
+-- `settle` meets its contract. The invariant: the first `i` bytes of both masks are settled, the others as they were.
+-- The measure is what is left of the length. Assumes nothing.
 use Prim.Native.Nat.{ℕ, _≤_, _<_, _-_}
 use mathlib.Core.Path.{_≡_, refl, ap₂, _∙_}
 use native.Mathlib.Omega.{arith}

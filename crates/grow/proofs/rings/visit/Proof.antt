@@ -18,10 +18,17 @@ expand-requires c κs = search needs
 same-length : tie.Need-same-length
 same-length c = search needs
 
+abbrev entry : tie.After-is-marked → tie.Start
+entry m = m .before .before .before
+
 returns : tie.Need-returns
 returns c x u =
-    let a = c .before .before .before .before .before .before .before .before .before .before .before .args in
-    let e = is-newest (a .out .now) (a .work .now) (a .cell) (sym (c .before .before .before .before .before .before .before .before .is-marked .ensures) ∙ c .before .before .before .before .before .before .before .if1 .taken) (sym (c .before .before .before .before .before .is-marked2 .ensures) ∙ c .before .before .before .before .if2 .taken) in
+    let t₂ = c .before .before .before .before in
+    let t₁ = t₂ .before .before .before in
+    let a = entry (t₁ .before) .args in
+    let o = sym (t₁ .before .is-marked .ensures) ∙ t₁ .if1 .taken in
+    let w = sym (t₂ .before .is-marked2 .ensures) ∙ t₂ .if2 .taken in
+    let e = is-newest (a .out .now) (a .work .now) (a .cell) o w in
     c .before .before .expand .ensures x u ∙ rw e
 
 same-length-2 : tie.Need-same-length-2
@@ -29,13 +36,15 @@ same-length-2 c = search needs
 
 returns-2 : tie.Need-returns-2
 returns-2 c x u =
-    let a = c .before .before .before .before .before .before .before .args in
-    rw (not-newest (a .out .now) (a .work .now) (a .cell) (sym (c .before .is-marked2 .ensures) ∙ c .if2 .left)) (idle (marked (a .work .now) x) (marked (a .out .now) x))
+    let a = entry (c .before .before .before .before) .args in
+    rw (not-newest (a .out .now) (a .work .now) (a .cell) (sym (c .before .is-marked2 .ensures) ∙ c .if2 .left))
+    (idle (marked (a .work .now) x) (marked (a .out .now) x))
 
 returns-3 : tie.Need-returns-3
 returns-3 c x u =
-    let a = c .before .before .before .before .args in
-    rw (not-reached (a .out .now) (a .work .now) (a .cell) (sym (c .before .is-marked .ensures) ∙ c .if1 .left)) (idle (marked (a .work .now) x) (marked (a .out .now) x))
+    let a = entry (c .before) .args in
+    rw (not-reached (a .out .now) (a .work .now) (a .cell) (sym (c .before .is-marked .ensures) ∙ c .if1 .left))
+    (idle (marked (a .work .now) x) (marked (a .out .now) x))
 
 pub visit-spec : {M : Type 1} → statement M
 visit-spec =

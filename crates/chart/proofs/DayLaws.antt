@@ -1,0 +1,92 @@
+-- What a cell reads after a day, and what the day's count is. Assumes nothing.
+use Prim.Native.Nat.{ℕ, _+_, _≤_, _<_}
+use mathlib.Core.Path.{_≡_, refl, sym, ap, ap₂, _∙_}
+use mathlib.Core.Bool.{Bool, true, false, _&&_, not}
+use mathlib.Core.List.{List}
+use mathlib.Core.Logic.{_↔_}
+use native.Mathlib.Omega.{arith}
+use borrow.Author.Tests.{leb-true, not-true}
+use lib.Dec.{leb}
+use lib.Ieee.{Float, nan}
+use Rattle.refusal.proofs.Tests.{parts}
+use Rattle.bitset.specs.Bits.{marked, size}
+use Rattle.chart.specs.Chart.{inRange, fresh, carried, readingOf, temperatureAt, ageAt}
+use Rattle.chart.specs.Day.{nought, dayOf, dayAt, temperaturesAfter, agesAfter, readsAfter, isFresh, summaryAfter}
+use Rattle.chart.proofs.Laws.{reads-fresh, fresh-reads, reads-carried}
+use Rattle.chart.proofs.Days.{leaves, getD-listOf, count-fresh}
+
+reads-left : (n d : ℕ) (new : List Float) (clouds : List ℕ) (temps : List Float) (ages : List ℕ) (c : ℕ) → c < n →
+    readsAfter n d new clouds temps ages c ≡ readingOf (dayAt d new clouds temps ages c .0) (dayAt d new clouds temps ages c .1)
+unfolding temperaturesAfter agesAfter
+reads-left n d new clouds temps ages c h =
+    ap₂ readingOf (getD-listOf nan n (λ c. dayAt d new clouds temps ages c .0) c h) (getD-listOf 0 n (λ c. dayAt d new clouds temps ages c .1) c h)
+
+-- ---- one cell
+
+left-fresh : (a b : Bool) (new old : Float) (age : ℕ) (t : Float) → readingOf (leaves a b new old age .0) (leaves a b new old age .1) ≡ fresh t →
+    (a ≡ true) × (new ≡ t)
+left-fresh true b new old age t e = (refl, reads-fresh new 0 t e .1)
+left-fresh false true new old age t e = let z = reads-fresh old (age + 1) t e .0 in absurd (omega arith)
+left-fresh false false new old age t e = let z = reads-fresh nought 255 t e .0 in absurd (omega arith)
+
+left-carried : (a b : Bool) (new old : Float) (age : ℕ) (t : Float) (m : ℕ) →
+    readingOf (leaves a b new old age .0) (leaves a b new old age .1) ≡ carried t m → (b ≡ true) × (m ≡ age + 1) × (t ≡ old)
+left-carried true b new old age t m e = let r = reads-carried new 0 t m e in absurd (omega (arith, r .0, r .1))
+left-carried false true new old age t m e = let r = reads-carried old (age + 1) t m e in (refl, sym (r .0), sym (r .3))
+left-carried false false new old age t m e = let r = reads-carried nought 255 t m e in absurd (omega (arith, r .0, r .2))
+
+day-fresh : (covered : Bool) (new old : Float) (age d : ℕ) (t : Float) →
+    readingOf (dayOf covered new old age d .0) (dayOf covered new old age d .1) ≡ fresh t →
+    (covered ≡ false) × (inRange new ≡ true) × (new ≡ t)
+unfolding dayOf
+day-fresh covered new old age d t e =
+    let r = left-fresh (not covered && inRange new) (leb (age + 1) d && inRange old) new old age t e in
+    let p = parts (not covered) (inRange new) (r .0) in
+    (not-true covered (p .0), p .1, r .1)
+
+fresh-day : (covered : Bool) (new old : Float) (age d : ℕ) (t : Float) → (covered ≡ false) × (inRange new ≡ true) × (new ≡ t) →
+    readingOf (dayOf covered new old age d .0) (dayOf covered new old age d .1) ≡ fresh t
+unfolding dayOf
+fresh-day covered new old age d t (p, q, e) = rw (p, q) (fresh-reads new 0 t (refl, e, ap inRange (sym e) ∙ q))
+
+day-carried : (covered : Bool) (new old : Float) (age d : ℕ) (t : Float) (m : ℕ) →
+    readingOf (dayOf covered new old age d .0) (dayOf covered new old age d .1) ≡ carried t m → (m ≡ age + 1) × (m ≤ d) × (t ≡ old)
+unfolding dayOf
+day-carried covered new old age d t m e =
+    let r = left-carried (not covered && inRange new) (leb (age + 1) d && inRange old) new old age t m e in
+    let few = leb-true (age + 1) d (parts (leb (age + 1) d) (inRange old) (r .0) .0) in
+    (r .1, omega (arith, r .1, few), r .2)
+
+-- ---- the chart that a day leaves, of n cells
+
+-- a cell reads fresh with t exactly when the mask leaves it uncovered and its new temperature, in range, is t
+pub fresh-after : (n d : ℕ) (new : List Float) (clouds : List ℕ) (temps : List Float) (ages : List ℕ) (c : ℕ) (t : Float) → c < n →
+    (readsAfter n d new clouds temps ages c ≡ fresh t) ↔ ((marked clouds c ≡ false) × (inRange (temperatureAt new c) ≡ true) × (temperatureAt new c ≡ t))
+fresh-after n d new clouds temps ages c t h = (
+  (λ e. day-fresh (marked clouds c) (temperatureAt new c) (temperatureAt temps c) (ageAt ages c) d t (sym (reads-left n d new clouds temps ages c h) ∙ e)),
+  (λ f. reads-left n d new clouds temps ages c h ∙ fresh-day (marked clouds c) (temperatureAt new c) (temperatureAt temps c) (ageAt ages c) d t f),
+)
+
+-- a carried cell has its old temperature, and its days are one more than before and at most d
+pub carried-after : (n d : ℕ) (new : List Float) (clouds : List ℕ) (temps : List Float) (ages : List ℕ) (c : ℕ) (t : Float) (m : ℕ) → c < n →
+    readsAfter n d new clouds temps ages c ≡ carried t m → (m ≡ ageAt ages c + 1) × (m ≤ d) × (t ≡ temperatureAt temps c)
+carried-after n d new clouds temps ages c t m h e =
+    day-carried (marked clouds c) (temperatureAt new c) (temperatureAt temps c) (ageAt ages c) d t m (sym (reads-left n d new clouds temps ages c h) ∙ e)
+
+-- with d = 0 no cell is carried
+pub none-carried : (n : ℕ) (new : List Float) (clouds : List ℕ) (temps : List Float) (ages : List ℕ) (c : ℕ) (t : Float) (m : ℕ) → c < n →
+    readsAfter n 0 new clouds temps ages c ≡ carried t m → ⊥
+none-carried n new clouds temps ages c t m h e =
+    let r = carried-after n 0 new clouds temps ages c t m h e in
+    omega (arith, r .0, r .1)
+
+-- the count is the number of cells that read fresh
+pub count-after : (n d : ℕ) (new : List Float) (clouds : List ℕ) (temps : List Float) (ages : List ℕ) →
+    summaryAfter n d new clouds temps ages .0 ≡ size n (λ c. isFresh (readsAfter n d new clouds temps ages c))
+unfolding summaryAfter
+count-after n d new clouds temps ages = count-fresh n (readsAfter n d new clouds temps ages)
+
+-- the paper's case: D = 2, clouded, old temperature in range: old age 1 gives age 2, old age 2 gives a gap
+pub two-days : (new old : Float) → inRange old ≡ true → (dayOf true new old 1 2 ≡ (old, 2)) × (dayOf true new old 2 2 ≡ (nought, 255))
+unfolding dayOf
+two-days new old i = (rw i, refl)

@@ -1,0 +1,4 @@
+pub mod Laws
+pub mod Days
+pub mod Answers
+pub mod DayLaws

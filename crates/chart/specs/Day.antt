@@ -1,0 +1,113 @@
+-- One day of a chart (document 01, "Charts and ages"): it reads new temperatures and a cloud mask, rewrites the chart's two slices, and answers a
+-- summary of the chart that it leaves.
+use Prim.Native.Nat.{ℕ, zero, suc, _+_, _^_}
+use mathlib.Core.Bool.{Bool, true, false, _&&_, not, cond}
+use mathlib.Core.List.{List, [], _∷_, _++_}
+use lib.Dec.{leb, ltb, eqb}
+use lib.IntN.{pos}
+use lib.Ieee as Ieee
+use lib.Ieee.{Float, fin}
+use Rattle.refusal.specs.Answer.{Answer, given, refused, Test, _when_, inOrder, lending}
+use Rattle.refusal.specs.Tests.{badLevel, badLength}
+use Rattle.bitset.specs.Bits.{marked}
+use Rattle.cell.specs.Cell.{cells}
+use Rattle.mask.specs.Mask.{maxMaskLevel}
+use Rattle.chart.specs.Chart.{inRange, Reading, fresh, carried, gap, maxDays, temperatureAt, ageAt, readingAt}
+use Rattle.chart.specs.declared.Summary as declared
+use Rattle.chart.specs.declared.DayAnswer.{DayAnswer}
+use Rattle.chart.specs.declared.DayAnswer.the-variants as day-answer
+
+-- ---- what a day leaves
+
+-- 0.0
+abbrev pub nought : Float
+nought = fin false 0 (pos 0)
+
+-- temperature and age of one cell, with day limit d: "an unmarked cell whose new temperature is in range takes it, age 0. Another cell keeps its old
+-- temperature and gets age + 1 if that is at most D and the old temperature is in range; otherwise temperature 0.0, age 255."
+unfoldable pub dayOf : Bool → Float → Float → ℕ → ℕ → Float × ℕ
+dayOf covered new old age d = cond (not covered && inRange new) (new, 0) (cond (leb (age + 1) d && inRange old) (old, age + 1) (nought, 255))
+
+-- cell c, from the new temperatures, the cloud mask and the chart before
+abbrev pub dayAt : ℕ → List Float → List ℕ → List Float → List ℕ → ℕ → Float × ℕ
+dayAt d new clouds temps ages c = dayOf (marked clouds c) (temperatureAt new c) (temperatureAt temps c) (ageAt ages c) d
+
+-- the list of n values of a function, in order
+unfoldable pub listOf : {A : Type 0} → ℕ → (ℕ → A) → List A
+listOf zero f = []
+listOf (suc n) f = listOf n f ++ (f n ∷ [])
+
+-- the two slices after the day, n cells each
+unfoldable pub temperaturesAfter : ℕ → ℕ → List Float → List ℕ → List Float → List ℕ → List Float
+temperaturesAfter n d new clouds temps ages = listOf n (λ c. dayAt d new clouds temps ages c .0)
+
+unfoldable pub agesAfter : ℕ → ℕ → List Float → List ℕ → List Float → List ℕ → List ℕ
+agesAfter n d new clouds temps ages = listOf n (λ c. dayAt d new clouds temps ages c .1)
+
+-- what cell c reads in the chart of n cells that the day leaves
+abbrev pub readsAfter : ℕ → ℕ → List Float → List ℕ → List Float → List ℕ → ℕ → Reading
+readsAfter n d new clouds temps ages = readingAt (temperaturesAfter n d new clouds temps ages) (agesAfter n d new clouds temps ages)
+
+-- ---- the summary
+
+-- "count, coldest and warmest of the fresh cells"
+abbrev pub Summary : Type 0
+Summary = ℕ × Float × Float
+
+-- "with none, 0 and 0.0 twice"
+abbrev pub none : Summary
+none = (0, nought, nought)
+
+-- a fresh cell more: the first of all is coldest and warmest; "on equal temperatures the first in cell order stands"
+unfoldable pub withFresh : Summary → Float → Summary
+withFresh (n, coldest, warmest) t =
+    cond (eqb n 0) (1, t, t) (n + 1, cond (Ieee.lt t coldest) t coldest, cond (Ieee.lt warmest t) t warmest)
+
+-- a cell more: only fresh ones count
+unfoldable pub withCell : Summary → Reading → Summary
+withCell s (fresh t) = withFresh s t
+withCell s (carried t days) = s
+withCell s gap = s
+
+-- whether a reading is fresh
+unfoldable pub isFresh : Reading → Bool
+isFresh (fresh t) = true
+isFresh (carried t d) = false
+isFresh gap = false
+
+-- the first n cells of a chart, in cell order, by what each reads
+unfoldable pub summaryOf : ℕ → (ℕ → Reading) → Summary
+summaryOf zero reads = none
+summaryOf (suc n) reads = withCell (summaryOf n reads) (reads n)
+
+-- ---- the call
+
+-- 6: days above 30
+abbrev pub badDays : ℕ → Test
+badDays d = 6 when ltb maxDays d
+
+-- refused 1, 5, 6
+abbrev pub dayTests : ℕ → ℕ → List Float → List ℕ → List Float → List ℕ → List Test
+dayTests k d new clouds temps ages =
+    badLevel maxMaskLevel k
+    ∷ badLength (cells k) new ∷ badLength (4 ^ k) clouds ∷ badLength (cells k) temps ∷ badLength (cells k) ages
+    ∷ badDays d ∷ []
+
+-- the summary of the chart that the day leaves
+unfoldable pub summaryAfter : ℕ → ℕ → List Float → List ℕ → List Float → List ℕ → Summary
+summaryAfter n d new clouds temps ages =
+    summaryOf n (readsAfter n d new clouds temps ages)
+
+-- a refused day leaves both slices
+abbrev pub dayCall : ℕ → ℕ → List Float → List ℕ → List Float → List ℕ → Answer Summary × (List Float × List ℕ)
+dayCall k d new clouds temps ages =
+    lending {S = List Float × List ℕ} (inOrder (dayTests k d new clouds temps ages) (summaryAfter (cells k) d new clouds temps ages)) (temps, ages)
+    (temperaturesAfter (cells k) d new clouds temps ages, agesAfter (cells k) d new clouds temps ages)
+
+-- what the code's values stand for
+abbrev pub summaryIs : declared.Summary → Summary
+summaryIs s = (s .count, s .coldest, s .warmest)
+
+abbrev pub saidDay : DayAnswer → Answer Summary
+saidDay (day-answer.Summed s) = given (summaryIs s)
+saidDay (day-answer.Refused n) = refused n
