@@ -109,4 +109,6 @@ demand-1 = record {
   grow = λ k m a out work. lent-by-tests _ _ _ _ refl;
   shrink = λ k m a out work. lent-by-tests _ _ _ _ refl;
   fill = λ k a o out. lent-by-tests _ _ _ _ refl;
+  reading-of = λ k temps ages c. by-tests _ _ refl;
+  day = λ k d new clouds temps ages. lent-by-tests _ _ _ _ refl;
 }

@@ -1,4 +1,5 @@
 pub mod Demand1
+pub mod Charts
 pub mod Codes
 pub mod Touching
 pub mod Demand2

@@ -6,6 +6,7 @@ use mathlib.Core.List.{List, [], _∷_}
 use mathlib.Core.Logic.{_⊎_, _↔_}
 use lib.IntN.{ℤ}
 use lib.ListN.{length, replicate}
+use lib.Ieee.{Float}
 use Rattle.refusal.specs.Answer.{Answer, given, refused, Test, _when_, done}
 use Rattle.refusal.specs.Tests.{badLevel, badLength}
 use Rattle.bitset.specs.Bits.{marked, bytesOf, size, outside}
@@ -17,6 +18,8 @@ use Rattle.touch.specs.Touch.{touching, padded, listCall}
 use Rattle.mask.specs.Mask.{maxMaskLevel, maskCall, countCall, union, joinCall, difference, lowest, withinCall}
 use Rattle.grow.specs.Grow.{badRings, grownCells, shrunkCells, growCall, shrinkCall}
 use Rattle.fill.specs.Fill.{reachable, badOutside, fillCall}
+use Rattle.chart.specs.Chart.{readingAt, readingCall}
+use Rattle.chart.specs.Day.{temperaturesAfter, agesAfter, summaryAfter, badDays, dayCall}
 
 -- a test with the number n applies
 abbrev pub Applies : ℕ → List Test → Type 0
@@ -93,3 +96,15 @@ pub record Demand1 : Type 0 where
   pub fill : (k : ℕ) (a : List ℕ) (o : ℕ) (out : List ℕ) →
       LentByTests (badLevel maxMaskLevel k ∷ badCell k o ∷ badLength (4 ^ k) a ∷ badLength (4 ^ k) out ∷ badOutside a o ∷ [])
       (fillCall k a o out) done out (bytesOf (4 ^ k) (outside (reachable k (marked a) o)))
+  -- reading of a cell: 1, 4, 5
+  pub reading-of : (k : ℕ) (temps : List Float) (ages : List ℕ) (c : ℕ) →
+      ByTests (badLevel maxMaskLevel k ∷ badCell k c ∷ badLength (cells k) temps ∷ badLength (cells k) ages ∷ [])
+      (readingCall k temps ages c) (readingAt temps ages c)
+  -- one day: 1, 5, 6
+  pub day : (k d : ℕ) (new : List Float) (clouds : List ℕ) (temps : List Float) (ages : List ℕ) →
+      LentByTests
+      (badLevel maxMaskLevel k
+      ∷ badLength (cells k) new ∷ badLength (4 ^ k) clouds ∷ badLength (cells k) temps ∷ badLength (cells k) ages
+      ∷ badDays d ∷ [])
+      (dayCall k d new clouds temps ages) (summaryAfter (cells k) d new clouds temps ages) (temps, ages)
+      (temperaturesAfter (cells k) d new clouds temps ages, agesAfter (cells k) d new clouds temps ages)

@@ -1,4 +1,4 @@
--- Demand 2: cells and their numbers, positions, centres, steps, touching and filling are as document 01 says, by the calls' answers.
+-- Demand 2: cells and their numbers, positions, centres, steps, touching, filling and a day's freshness are as document 01 says, by the calls' answers.
 use Prim.Native.Nat.{ℕ, suc, _+_, _*_, _-_, _/_, _^_, _≤_, _<_}
 use mathlib.Core.Path.{_≡_}
 use mathlib.Core.Bool.{true, false}
@@ -6,6 +6,7 @@ use mathlib.Core.List.{List, [], _∷_, _++_, map}
 use mathlib.Core.Logic.{_⊎_, _↔_}
 use lib.IntN.{ℤ, pos, natAbs, negℤ, _+ℤ_}
 use lib.ListN.{length, replicate}
+use lib.Ieee.{Float}
 use Rattle.refusal.specs.Answer.{given, refused, done}
 use Rattle.bitset.specs.Bits.{marked}
 use Rattle.cell.specs.Cell.{Frame, up, down, child, Place, place, Occurs, cells, maxLevel, placeCall, numberCall}
@@ -15,6 +16,8 @@ use Rattle.step.specs.Neighbours.{back, direct, isDirect, Neighbours}
 use Rattle.corner.specs.Corner.{Point, norm, corners, touchCall}
 use Rattle.touch.specs.Touch.{rising, indirect, CornerCell, cellsAt, Tip, unused, listCall}
 use Rattle.fill.specs.Fill.{Reachable, fillCall}
+use Rattle.chart.specs.Chart.{inRange, fresh, carried, temperatureAt, ageAt, readingCall}
+use Rattle.chart.specs.Day.{Summary, dayCall}
 
 -- ---- the steps inside an octant, line by line
 
@@ -148,3 +151,15 @@ pub record Demand2 : Type 0 where
   -- and the outside cell is not
   pub outside-open : (k : ℕ) (a : List ℕ) (o : ℕ) (out : List ℕ) → fillCall k a o out .0 ≡ given done →
       marked (fillCall k a o out .1) o ≡ false
+  -- after a day a cell is fresh exactly when that pass gave it an uncovered temperature in range, and then it reads that temperature
+  pub day-fresh : (k d : ℕ) (new : List Float) (clouds : List ℕ) (temps : List Float) (ages : List ℕ) (s : Summary) →
+      let after = dayCall k d new clouds temps ages in
+      after .0 ≡ given s → (c : ℕ) → c < cells k → (t : Float) →
+      (readingCall k (after .1 .0) (after .1 .1) c ≡ given (fresh t)) ↔
+      ((marked clouds c ≡ false) × (inRange (temperatureAt new c) ≡ true) × (temperatureAt new c ≡ t))
+  -- a cell that is carried after it has its old temperature, and its days are one more than its age was and at most the limit
+  pub day-carried : (k d : ℕ) (new : List Float) (clouds : List ℕ) (temps : List Float) (ages : List ℕ) (s : Summary) →
+      let after = dayCall k d new clouds temps ages in
+      after .0 ≡ given s → (c : ℕ) → c < cells k → (t : Float) (m : ℕ) →
+      readingCall k (after .1 .0) (after .1 .1) c ≡ given (carried t m) →
+      (m ≡ ageAt ages c + 1) × (m ≤ d) × (t ≡ temperatureAt temps c)
