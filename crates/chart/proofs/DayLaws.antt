@@ -3,17 +3,17 @@ use Prim.Native.Nat.{ℕ, _+_, _≤_, _<_}
 use mathlib.Core.Path.{_≡_, refl, sym, ap, ap₂, _∙_}
 use mathlib.Core.Bool.{Bool, true, false, _&&_, not}
 use mathlib.Core.List.{List}
-use mathlib.Core.Logic.{_↔_}
+use mathlib.Core.Logic.{_↔_, _⊎_, inl, inr}
 use native.Mathlib.Omega.{arith}
-use borrow.Author.Tests.{leb-true, not-true}
+use borrow.Author.Tests.{leb-true, lt-leb, not-true}
 use lib.Dec.{leb}
 use lib.Ieee.{Float, nan}
 use Rattle.refusal.proofs.Tests.{parts}
 use Rattle.bitset.specs.Bits.{marked, size}
-use Rattle.chart.specs.Chart.{inRange, fresh, carried, readingOf, temperatureAt, ageAt}
+use Rattle.chart.specs.Chart.{inRange, fresh, carried, readingOf, temperatureAt, ageAt, gap, maxDays, Gap, readingAt}
 use Rattle.chart.specs.Day.{nought, dayOf, dayAt, temperaturesAfter, agesAfter, readsAfter, isFresh, summaryAfter}
-use Rattle.chart.proofs.Laws.{reads-fresh, fresh-reads, reads-carried}
-use Rattle.chart.proofs.Days.{leaves, getD-listOf, count-fresh}
+use Rattle.chart.proofs.Laws.{reads-fresh, fresh-reads, reads-carried, gap-exactly}
+use Rattle.chart.proofs.Days.{not-first, not-second, leaves, getD-listOf, count-fresh}
 
 reads-left : (n d : ℕ) (new : List Float) (clouds : List ℕ) (temps : List Float) (ages : List ℕ) (c : ℕ) → c < n →
     readsAfter n d new clouds temps ages c ≡ readingOf (dayAt d new clouds temps ages c .0) (dayAt d new clouds temps ages c .1)
@@ -57,6 +57,25 @@ day-carried covered new old age d t m e =
     let few = leb-true (age + 1) d (parts (leb (age + 1) d) (inRange old) (r .0) .0) in
     (r .1, omega (arith, r .1, few), r .2)
 
+left-older : (a b : Bool) (new old : Float) (age : ℕ) → age ≤ 255 → (leaves a b new old age .1 ≡ 0) ⊎ (age ≤ leaves a b new old age .1)
+left-older true b new old age h = inl refl
+left-older false true new old age h = inr (omega arith)
+left-older false false new old age h = inr h
+
+-- a cell that gets nothing and was a gap: neither its age nor its temperature can be carried
+no-carrying : (old : Float) (age d : ℕ) → d ≤ maxDays → Gap old age → (leb (age + 1) d && inRange old) ≡ false
+no-carrying old age d l (inl h) = not-first (leb (age + 1) d) (inRange old) (lt-leb (age + 1) d (omega arith))
+no-carrying old age d l (inr h) = not-second (leb (age + 1) d) (inRange old) h
+
+left-gap : (a b : Bool) (new old : Float) (age : ℕ) → a ≡ false → b ≡ false → readingOf (leaves a b new old age .0) (leaves a b new old age .1) ≡ gap
+unfolding readingOf
+left-gap a b new old age p q = rw (p, q)
+
+-- a value out of range acts as cloud
+pub out-of-range-covers : (covered : Bool) (new old : Float) (age d : ℕ) → inRange new ≡ false → dayOf covered new old age d ≡ dayOf true new old age d
+unfolding dayOf
+out-of-range-covers covered new old age d e = rw (not-second (not covered) (inRange new) e)
+
 -- ---- the chart that a day leaves, of n cells
 
 -- a cell reads fresh with t exactly when the mask leaves it uncovered and its new temperature, in range, is t
@@ -90,3 +109,31 @@ count-after n d new clouds temps ages = count-fresh n (readsAfter n d new clouds
 pub two-days : (new old : Float) → inRange old ≡ true → (dayOf true new old 1 2 ≡ (old, 2)) × (dayOf true new old 2 2 ≡ (nought, 255))
 unfolding dayOf
 two-days new old i = (rw i, refl)
+
+-- an age never falls but to 0
+pub age-after : (n d : ℕ) (new : List Float) (clouds : List ℕ) (temps : List Float) (ages : List ℕ) (c : ℕ) → c < n → ageAt ages c ≤ 255 →
+    (ageAt (agesAfter n d new clouds temps ages) c ≡ 0) ⊎ (ageAt ages c ≤ ageAt (agesAfter n d new clouds temps ages) c)
+unfolding agesAfter dayOf
+age-after n d new clouds temps ages c h b =
+    let taken = not (marked clouds c) && inRange (temperatureAt new c) in
+    let kept = leb (ageAt ages c + 1) d && inRange (temperatureAt temps c) in
+    rw (getD-listOf 0 n (λ c. dayAt d new clouds temps ages c .1) c h)
+    (left-older taken kept (temperatureAt new c) (temperatureAt temps c) (ageAt ages c) b)
+
+-- a cell that was a gap and gets nothing stays one
+pub gap-after : (n d : ℕ) (new : List Float) (clouds : List ℕ) (temps : List Float) (ages : List ℕ) (c : ℕ) → c < n → d ≤ maxDays →
+    (marked clouds c ≡ true) ⊎ (inRange (temperatureAt new c) ≡ false) → readingAt temps ages c ≡ gap → readsAfter n d new clouds temps ages c ≡ gap
+unfolding dayOf
+gap-after n d new clouds temps ages c h l nothing g =
+    reads-left n d new clouds temps ages c h
+    ∙ left-gap _ _ (temperatureAt new c) (temperatureAt temps c) (ageAt ages c) (not-taken nothing)
+      (no-carrying (temperatureAt temps c) (ageAt ages c) d l (gap-exactly temps ages c .0 g))
+  where
+    not-taken : (marked clouds c ≡ true) ⊎ (inRange (temperatureAt new c) ≡ false) → (not (marked clouds c) && inRange (temperatureAt new c)) ≡ false
+    not-taken (inl e) = not-first (not (marked clouds c)) (inRange (temperatureAt new c)) (ap not e)
+    not-taken (inr e) = not-second (not (marked clouds c)) (inRange (temperatureAt new c)) e
+
+-- a value acts on its own cell alone
+pub own-cell : (d : ℕ) (new new′ : List Float) (clouds : List ℕ) (temps : List Float) (ages : List ℕ) (c : ℕ) →
+    temperatureAt new c ≡ temperatureAt new′ c → dayAt d new clouds temps ages c ≡ dayAt d new′ clouds temps ages c
+own-cell d new new′ clouds temps ages c e = ap (λ (t : Float). dayOf (marked clouds c) t (temperatureAt temps c) (ageAt ages c) d) e
