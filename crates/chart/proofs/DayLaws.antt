@@ -127,7 +127,7 @@ unfolding dayOf
 gap-after n d new clouds temps ages c h l nothing g =
     reads-left n d new clouds temps ages c h
     ∙ left-gap _ _ (temperatureAt new c) (temperatureAt temps c) (ageAt ages c) (not-taken nothing)
-      (no-carrying (temperatureAt temps c) (ageAt ages c) d l (gap-exactly temps ages c .0 g))
+    (no-carrying (temperatureAt temps c) (ageAt ages c) d l (gap-exactly temps ages c .0 g))
   where
     not-taken : (marked clouds c ≡ true) ⊎ (inRange (temperatureAt new c) ≡ false) → (not (marked clouds c) && inRange (temperatureAt new c)) ≡ false
     not-taken (inl e) = not-first (not (marked clouds c)) (inRange (temperatureAt new c)) (ap not e)

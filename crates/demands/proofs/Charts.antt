@@ -43,7 +43,7 @@ module _ (k d : ℕ) (new : List Float) (clouds : List ℕ) (temps : List Float)
       let after = dayCall k d new clouds temps ages in readingCall k (after .1 .0) (after .1 .1) c ≡ given (readsAfter (cells k) d new clouds temps ages c)
   answered c h =
       let none : Passed (readingTests k temps′ ages′ c) =
-          (le-ltb maxMaskLevel k level, (lt-leb (cells k) c h, (length-passes (cells k) temps′ warmth, (length-passes (cells k) ages′ aged, tt)))) in
+      (le-ltb maxMaskLevel k level, (lt-leb (cells k) c h, (length-passes (cells k) temps′ warmth, (length-passes (cells k) ages′ aged, tt)))) in
       rw accepted (sym (gives (readingTests k temps′ ages′ c) (readingAt temps′ ages′ c) none))
 
   pub day-fresh : (c : ℕ) → c < cells k → (t : Float) →
