@@ -1,24 +1,15 @@
 -- What follows from the definitions of charts and their readings. Assumes nothing.
-use Prim.Native.Nat.{ℕ, _*_, _%_, _^_, _≤_}
+use Prim.Native.Nat.{ℕ}
 use mathlib.Core.Path.{_≡_, refl, sym, ap, _∙_}
 use mathlib.Core.Bool.{Bool, true, false, _&&_, _||_, not, cond}
 use mathlib.Core.List.{List}
 use mathlib.Core.Logic.{_⊎_, inl, inr, _↔_}
-use native.Mathlib.Nat.{mod-eq-of-lt}
 use native.Mathlib.Omega.{arith}
 use borrow.Author.Tests.{ltb-true, ltb-false, eqb-true, eqb-false, lt-ltb, le-ltb, ne-eqb}
 use lib.Dec.{ltb, eqb}
 use lib.Ieee as Ieee
 use lib.Ieee.{Float, nan, inf}
-use Rattle.cell.specs.Cell.{cells}
-use Rattle.cell.proofs.Laws.{shift-four}
-use Rattle.mask.specs.Mask.{maxMaskLevel}
-use Rattle.mask.proofs.Laws.{mask-small}
 use Rattle.chart.specs.Chart.{lowest, highest, inRange, Reading, fresh, carried, gap, maxDays, readingOf, temperatureAt, ageAt, readingAt, Fresh, Carried, Gap}
-
--- eight shifted by twice the level is the number of cells
-pub eight-shifted : (k : ℕ) → k ≤ maxMaskLevel → 8 * 2 ^ (2 * k) % 2 ^ 64 ≡ cells k
-eight-shifted k h = rw (shift-four k) (mod-eq-of-lt (omega (arith, mask-small k h)))
 
 -- ---- the range
 

@@ -13,7 +13,7 @@ use Rattle.refusal.proofs.Tests.{length-passes}
 use Rattle.bitset.specs.Bits.{marked}
 use Rattle.cell.specs.Cell.{cells}
 use Rattle.mask.specs.Mask.{maxMaskLevel}
-use Rattle.chart.specs.Chart.{inRange, Reading, fresh, carried, temperatureAt, ageAt, readingTests, readingAt, readingCall}
+use Rattle.chart.specs.Chart.{inRange, fresh, carried, temperatureAt, ageAt, readingTests, readingAt, readingCall}
 use Rattle.chart.specs.Day.{temperaturesAfter, agesAfter, readsAfter, Summary, dayTests, summaryAfter, dayCall}
 use Rattle.chart.proofs.Days.{length-listOf}
 use Rattle.chart.proofs.DayLaws.{fresh-after, carried-after}

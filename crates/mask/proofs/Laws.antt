@@ -4,7 +4,7 @@ use mathlib.Core.Path.{_≡_, refl, sym, ap, _∙_}
 use mathlib.Core.Bool.{Bool, true, false, cond, not, _&&_, _||_, and-false}
 use mathlib.Core.List.{List}
 use mathlib.Core.Logic.{⊎-elim}
-use native.Mathlib.Nat.{pow-le-pow-right, eq-or-lt-of-le}
+use native.Mathlib.Nat.{pow-le-pow-right, eq-or-lt-of-le, lt-of-le-of-lt, mul-le-mul-left, mod-eq-of-lt}
 use native.Mathlib.Omega.{arith}
 use borrow.Author.Tests.{eq-eqb, ne-eqb}
 use lib.Bits.{bitOr, or-lt}
@@ -12,11 +12,16 @@ use lib.ListN.{getD}
 use Rattle.refusal.proofs.Tests.{clash}
 use Rattle.bitset.specs.Bits.{bit, marked, bitsOf}
 use Rattle.bitset.proofs.Laws.{marked-at, bits-settled, bit-or}
+use Rattle.cell.proofs.Laws.{shift-four}
 use Rattle.mask.specs.Mask.{maxMaskLevel, within, lacks, lowest, difference, union}
 
 -- no mask is longer than those of the highest level
 pub mask-small : (k : ℕ) → k ≤ maxMaskLevel → 4 ^ k ≤ 4 ^ maxMaskLevel
 mask-small k h = pow-le-pow-right {n = 4} (omega arith) {i = k} {j = maxMaskLevel} h
+
+-- c shifted by twice the level, in a number of w bits, is c × 4^k: with c = 1 the bytes of a mask, with c = 8 its cells
+pub level-shifted : (w c k : ℕ) → k ≤ maxMaskLevel → c * 4 ^ maxMaskLevel < 2 ^ w → c * 2 ^ (2 * k) % 2 ^ w ≡ c * 4 ^ k
+level-shifted w c k h l = rw (shift-four k) (mod-eq-of-lt (lt-of-le-of-lt (mul-le-mul-left c (mask-small k h)) l))
 
 -- the lowest of a set: none below it, and it is in the set unless it is past the end
 pub lowest-none : (P : ℕ → Bool) (j m : ℕ) → ((c : ℕ) → c < m + j → P c ≡ false) → lowest P j m ≡ within

@@ -8,7 +8,7 @@ use lib.ListN.{length}
 use Rattle.cell.specs.Cell.{cells}
 use Rattle.mask.specs.Mask.{maxMaskLevel}
 use Rattle.chart.specs.Chart.{maxDays}
-use Rattle.chart.proofs.Laws.{eight-shifted}
+use Rattle.mask.proofs.Laws.{level-shifted}
 use Rattle.chart.proofs.day_tests.Statement.{statement}
 use Rattle.chart.proofs.day_tests.Tie as tie
 
@@ -31,42 +31,42 @@ returns-2 : tie.Need-returns-2
 returns-2 c =
     let e = c .before in
     let a = e .before .args in
-    let n : length (a .new .now) ≡ cells (a .level) → ⊥ = λ q. omega (arith, eight-shifted (a .level) (low e)) in
+    let n : length (a .new .now) ≡ cells (a .level) → ⊥ = λ q. omega (arith, level-shifted 64 8 (a .level) (low e) (omega arith)) in
     simp (le-ltb maxMaskLevel (a .level) (low e), ne-eqb _ _ n)
 
 first : (c : tie.Else2) → let a = c .before .before .args in length (a .new .now) ≡ cells (a .level)
-first c = omega (arith, eight-shifted (c .before .before .args .level) (low (c .before)))
+first c = omega (arith, level-shifted 64 8 (c .before .before .args .level) (low (c .before)) (omega arith))
 
 returns-3 : tie.Need-returns-3
 returns-3 c =
     let e = c .before .before in
     let a = e .before .args in
-    let n : length (a .clouds .now) ≡ 4 ^ a .level → ⊥ = λ q. omega (arith, eight-shifted (a .level) (low e)) in
+    let n : length (a .clouds .now) ≡ 4 ^ a .level → ⊥ = λ q. omega (arith, level-shifted 64 8 (a .level) (low e) (omega arith)) in
     simp (le-ltb maxMaskLevel (a .level) (low e), eq-eqb _ _ (first (c .before)), ne-eqb _ _ n)
 
 second : (c : tie.Else3) → let a = c .before .before .before .args in length (a .clouds .now) ≡ 4 ^ a .level
-second c = omega (arith, eight-shifted (c .before .before .before .args .level) (low (c .before .before)))
+second c = omega (arith, level-shifted 64 8 (c .before .before .before .args .level) (low (c .before .before)) (omega arith))
 
 returns-4 : tie.Need-returns-4
 returns-4 c =
     let e = c .before .before .before in
     let a = e .before .args in
-    let n : length (a .temperatures .now) ≡ cells (a .level) → ⊥ = λ q. omega (arith, eight-shifted (a .level) (low e)) in
+    let n : length (a .temperatures .now) ≡ cells (a .level) → ⊥ = λ q. omega (arith, level-shifted 64 8 (a .level) (low e) (omega arith)) in
     simp (le-ltb maxMaskLevel (a .level) (low e), eq-eqb _ _ (first (c .before .before)), eq-eqb _ _ (second (c .before)), ne-eqb _ _ n)
 
 third : (c : tie.Else4) → let a = c .before .before .before .before .args in length (a .temperatures .now) ≡ cells (a .level)
-third c = omega (arith, eight-shifted (c .before .before .before .before .args .level) (low (c .before .before .before)))
+third c = omega (arith, level-shifted 64 8 (c .before .before .before .before .args .level) (low (c .before .before .before)) (omega arith))
 
 returns-5 : tie.Need-returns-5
 returns-5 c =
     let f = c .before in
     let e = f .before .before .before in
     let a = e .before .args in
-    let n : length (a .ages .now) ≡ cells (a .level) → ⊥ = λ q. omega (arith, eight-shifted (a .level) (low e)) in
+    let n : length (a .ages .now) ≡ cells (a .level) → ⊥ = λ q. omega (arith, level-shifted 64 8 (a .level) (low e) (omega arith)) in
     simp (le-ltb maxMaskLevel (a .level) (low e), eq-eqb _ _ (first (f .before .before)), eq-eqb _ _ (second (f .before)), eq-eqb _ _ (third f), ne-eqb _ _ n)
 
 fourth : (c : tie.Else5) → let a = c .before .before .before .before .before .args in length (a .ages .now) ≡ cells (a .level)
-fourth c = omega (arith, eight-shifted (c .before .before .before .before .before .args .level) (low (c .before .before .before .before)))
+fourth c = omega (arith, level-shifted 64 8 (c .before .before .before .before .before .args .level) (low (c .before .before .before .before)) (omega arith))
 
 cast-if6 : tie.Need-cast-if6
 cast-if6 c = search needs

@@ -8,7 +8,7 @@ use lib.ListN.{length}
 use Rattle.cell.specs.Cell.{cells}
 use Rattle.cell.proofs.Laws.{past-level, below-level}
 use Rattle.mask.specs.Mask.{maxMaskLevel}
-use Rattle.chart.proofs.Laws.{eight-shifted}
+use Rattle.mask.proofs.Laws.{level-shifted}
 use Rattle.chart.proofs.reading_of.Statement.{statement}
 use Rattle.chart.proofs.reading_of.Tie as tie
 
@@ -48,21 +48,21 @@ returns-3 : tie.Need-returns-3
 returns-3 c =
     let e = c .before in
     let a = entry e .args in
-    let n : length (a .temperatures .now) ≡ cells (a .level) → ⊥ = λ q. omega (arith, eight-shifted (a .level) (low e)) in
+    let n : length (a .temperatures .now) ≡ cells (a .level) → ⊥ = λ q. omega (arith, level-shifted 64 8 (a .level) (low e) (omega arith)) in
     simp (le-ltb maxMaskLevel (a .level) (low e), lt-leb _ _ (in-level e), ne-eqb _ _ n)
 
 first : (c : tie.Else3) → length (entry (c .before) .args .temperatures .now) ≡ cells (entry (c .before) .args .level)
-first c = omega (arith, eight-shifted (entry (c .before) .args .level) (low (c .before)))
+first c = omega (arith, level-shifted 64 8 (entry (c .before) .args .level) (low (c .before)) (omega arith))
 
 returns-4 : tie.Need-returns-4
 returns-4 c =
     let e = c .before .before in
     let a = entry e .args in
-    let n : length (a .ages .now) ≡ cells (a .level) → ⊥ = λ q. omega (arith, eight-shifted (a .level) (low e)) in
+    let n : length (a .ages .now) ≡ cells (a .level) → ⊥ = λ q. omega (arith, level-shifted 64 8 (a .level) (low e) (omega arith)) in
     simp (le-ltb maxMaskLevel (a .level) (low e), lt-leb _ _ (in-level e), eq-eqb _ _ (first (c .before)), ne-eqb _ _ n)
 
 second : (c : tie.Else4) → length (entry (c .before .before) .args .ages .now) ≡ cells (entry (c .before .before) .args .level)
-second c = omega (arith, eight-shifted (entry (c .before .before) .args .level) (low (c .before .before)))
+second c = omega (arith, level-shifted 64 8 (entry (c .before .before) .args .level) (low (c .before .before)) (omega arith))
 
 mul-reading : tie.Need-mul-reading
 mul-reading c = search needs

@@ -1,19 +1,16 @@
 -- `fill_tests` meets its contract, test by test. Assumes nothing.
-use Prim.Native.Nat.{ℕ, _*_, _%_, _^_, _≤_, _<_}
+use Prim.Native.Nat.{_^_, _≤_, _<_}
 use mathlib.Core.Path.{_≡_, sym, _∙_}
 use native.Mathlib.Omega.{arith}
 use borrow.Author.Tests.{lt-ltb, le-ltb, le-leb, lt-leb, eq-eqb, ne-eqb}
 use lib.ListN.{length}
 use Rattle.cell.specs.Cell.{cells}
-use Rattle.cell.proofs.Laws.{shift-four, shifted, past-level, below-level}
+use Rattle.cell.proofs.Laws.{past-level, below-level}
 use Rattle.mask.specs.Mask.{maxMaskLevel}
+use Rattle.mask.proofs.Laws.{level-shifted}
 use borrow.Author.Needs.{needs}
 use Rattle.fill.proofs.fill_tests.Statement.{statement}
 use Rattle.fill.proofs.fill_tests.Tie as tie
-
--- a one shifted by twice the level is the number of bytes
-bytes : (k : ℕ) → k ≤ maxMaskLevel → 1 * 2 ^ (2 * k) % 2 ^ 64 ≡ 4 ^ k
-bytes k h = shifted 64 (2 * k) (omega arith) ∙ shift-four k
 
 returns : tie.Need-returns
 returns c = simp (lt-ltb maxMaskLevel (c .before .before .before .args .level) (omega arith))
@@ -51,21 +48,21 @@ returns-3 : tie.Need-returns-3
 returns-3 c =
     let e = c .before in
     let a = entry e .args in
-    let n : length (a .border .now) ≡ 4 ^ a .level → ⊥ = λ q. omega (arith, bytes (a .level) (low e)) in
+    let n : length (a .border .now) ≡ 4 ^ a .level → ⊥ = λ q. omega (arith, level-shifted 64 1 (a .level) (low e) (omega arith)) in
     simp (le-ltb maxMaskLevel (a .level) (low e), lt-leb _ _ (in-range e), ne-eqb _ _ n)
 
 first : (c : tie.Else3) → length (entry (c .before) .args .border .now) ≡ 4 ^ entry (c .before) .args .level
-first c = omega (arith, bytes (entry (c .before) .args .level) (low (c .before)))
+first c = omega (arith, level-shifted 64 1 (entry (c .before) .args .level) (low (c .before)) (omega arith))
 
 returns-4 : tie.Need-returns-4
 returns-4 c =
     let e = c .before .before in
     let a = entry e .args in
-    let n : length (a .out .now) ≡ 4 ^ a .level → ⊥ = λ q. omega (arith, bytes (a .level) (low e)) in
+    let n : length (a .out .now) ≡ 4 ^ a .level → ⊥ = λ q. omega (arith, level-shifted 64 1 (a .level) (low e) (omega arith)) in
     simp (le-ltb maxMaskLevel (a .level) (low e), lt-leb _ _ (in-range e), eq-eqb _ _ (first (c .before)), ne-eqb _ _ n)
 
 second : (c : tie.Else4) → length (entry (c .before .before) .args .out .now) ≡ 4 ^ entry (c .before .before) .args .level
-second c = omega (arith, bytes (entry (c .before .before) .args .level) (low (c .before .before)))
+second c = omega (arith, level-shifted 64 1 (entry (c .before .before) .args .level) (low (c .before .before)) (omega arith))
 
 is-marked-requires : tie.Need-is-marked-requires
 is-marked-requires c κs = search needs

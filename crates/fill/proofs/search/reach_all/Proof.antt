@@ -1,8 +1,7 @@
 -- `reach_all` meets its contract. The invariant is the search's; the measure is what is left to see and to visit. Assumes nothing.
-use Prim.Native.Nat.{ℕ, _*_, _%_, _^_, _≤_, _<_}
+use Prim.Native.Nat.{ℕ, _*_, _^_, _≤_, _<_}
 use mathlib.Core.List.{List}
 use mathlib.Core.Path.{_≡_, refl, sym, ap, subst, _∙_}
-use native.Mathlib.Nat.{mod-eq-of-lt}
 use native.Mathlib.Omega.{arith}
 use borrow.Author.Needs.{needs}
 use lib.Dec.{eqb}
@@ -11,9 +10,7 @@ use Rattle.bitset.specs.Bits.{Bytes, marked, marking}
 use Rattle.bitset.proofs.Laws.{marked-marking}
 use Rattle.bitset.proofs.Outside.{marked-zeros}
 use Rattle.cell.specs.Cell.{cells}
-use Rattle.cell.proofs.Laws.{shift-four}
-use Rattle.mask.specs.Mask.{maxMaskLevel}
-use Rattle.mask.proofs.Laws.{mask-small}
+use Rattle.mask.proofs.Laws.{mask-small, level-shifted}
 use Rattle.fill.proofs.Searching.{Search, search-start, search-ends, marking-long, visited-long, search-more, less-left, waiting}
 use Rattle.fill.proofs.search.reach_all.Statement.{statement}
 use Rattle.fill.proofs.search.reach_all.Tie as tie
@@ -37,10 +34,6 @@ mul-end c = omega arith
 shl-end : tie.Need-shl-end Inv-loop μ-loop
 shl-end c = omega arith
 
--- eight shifted by twice the level is the number of cells
-all-cells : (k : ℕ) → k ≤ maxMaskLevel → 8 * 2 ^ (2 * k) % 2 ^ 32 ≡ cells k
-all-cells k h = rw shift-four (mod-eq-of-lt (omega (arith, mask-small k h)))
-
 loop-holds : tie.Need-loop-holds Inv-loop μ-loop
 loop-holds c =
     let m = c .before .before in
@@ -53,7 +46,7 @@ loop-holds c =
     let long : length zeros ≡ 4 ^ a .level = length-replicate (length (a .out .now)) 0 ∙ e .pre .1 in
     let alone : (i : ℕ) → marked (marking zeros (a .outside)) i ≡ eqb (a .outside) i = λ i.
     marked-marking zeros (a .outside) i (omega (arith, e .pre .2, long)) ∙ rw (marked-zeros (length (a .out .now)) i) in (
-      all-cells (a .level) (e .pre .0),
+      level-shifted 32 8 (a .level) (e .pre .0) (omega arith),
       ap length out ∙ marking-long zeros (a .outside) ∙ long,
       refl,
       (λ i. c .slice-known3 .given i .fits),

@@ -7,7 +7,7 @@ use native.Mathlib.Omega.{arith}
 use borrow.Author.Needs.{needs}
 use lib.ListN.{length, replicate}
 use Rattle.bitset.specs.Bits.{Bytes, marked, bytesOf}
-use Rattle.cell.proofs.Laws.{shift-four, shifted}
+use Rattle.mask.proofs.Laws.{level-shifted}
 use Rattle.grow.specs.Grow.{grownCells}
 use Rattle.grow.proofs.Growth.{Reaching, reaching-start, reaching-subset, reaching-step, reaching-bytes}
 use Rattle.grow.proofs.rings.spread.Statement.{statement}
@@ -49,7 +49,7 @@ ring-requires c κs =
     let l = t .loop in
     let e = entry t in
     let k = e .args .level in
-    let n : 1 * 2 ^ (2 * k) % 2 ^ 32 ≡ 4 ^ k = shifted 32 (2 * k) (omega (arith, e .pre .0)) ∙ shift-four k in
+    let n : 1 * 2 ^ (2 * k) % 2 ^ 32 ≡ 4 ^ k = omega (arith, level-shifted 32 1 k (e .pre .0) (omega arith)) in
     ((e .pre .0, n, l .inv .1, l .inv .2), reaching-subset k (marked (e .args .out .now)) (l .out) (l .work) (l .done) (l .inv .4))
 
 add-done : tie.Need-add-done Inv-loop μ-loop
