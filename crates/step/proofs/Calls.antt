@@ -19,7 +19,7 @@ use Rattle.step.specs.Neighbours.{back, One, OneOf, Neighbours}
 use Rattle.step.proofs.Laws.{step-occurs, step-back, code-step, past-seven, one-place, three-direct}
 
 -- where something is found
-is-found : {A : Type 0} (s : Option A) → missing s ≡ false → (x : A) × (s ≡ some x)
+pub is-found : {A : Type 0} (s : Option A) → missing s ≡ false → (x : A) × (s ≡ some x)
 is-found none e = clash refl e
 is-found (some x) e = (x, refl)
 

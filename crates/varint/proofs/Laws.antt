@@ -4,13 +4,13 @@ use mathlib.Core.Path.{_≡_, refl, sym, ap, ap₂, _∙_}
 use mathlib.Core.Bool.{not}
 use mathlib.Core.List.{List, [], _∷_, _++_}
 use mathlib.Core.Logic.{⊎-elim}
-use native.Mathlib.Nat.{pow-suc}
+use native.Mathlib.Nat.{pow-suc, zero-add, suc-add}
 use native.Mathlib.Numerals.{add-one}
 use native.Mathlib.Omega.{arith}
 use borrow.Author.Tests.{lt-leb, leb-false, eqb-true, eq-eqb, not-false}
 use lib.Dec.{leb, eqb}
-use lib.ListN.{length, take, drop, getD}
-use lib.Seq.{drop-at, getD-drop}
+use lib.ListN.{length, take, drop, getD, length-drop}
+use lib.Seq.{drop-at, getD-drop, take-nil, take-take}
 use Rattle.refusal.specs.Answer.{Answer, given, refused, _when_}
 use Rattle.refusal.proofs.Answers.{given≢refused, given-same, passed, gives}
 use Rattle.varint.specs.Varint.{groups, numeral, more, valued, inForm, readCall, Exactly}
@@ -20,6 +20,20 @@ use Rattle.varint.proofs.Groups.{valued-last, valued-more, after, value
 -- a number has one byte to five
 pub numeral-length : (n : ℕ) → (1 ≤ length (numeral n)) × (length (numeral n) ≤ 5)
 numeral-length n = (groups-some 4 n, groups-most 5 n)
+
+-- at most j + 1 where it is below 128^(j+1)
+groups-within : (f j n : ℕ) → n < 128 ^ suc j → length (groups f n) ≤ suc j
+unfolding groups
+groups-within zero j n h = omega arith
+groups-within (suc f) zero n h = rw (groups-last f n (omega (arith, pow-suc 128 0))) (omega arith)
+groups-within (suc f) (suc j) n h =
+    ⊎-elim
+    (λ l. rw (groups-last f n l) (omega arith))
+    (λ l. rw (groups-more f n l) (omega (arith, groups-within f j (n / 128) (left-below (suc j) n l h .1))))
+    (low-or-high n)
+
+pub numeral-within : (j n : ℕ) → n < 128 ^ suc j → length (numeral n) ≤ suc j
+numeral-within j n h = groups-within 5 j n h
 
 -- each below 256, of whatever number
 groups-bytes : (f n i : ℕ) → getD (groups f n) i 0 < 256
@@ -108,6 +122,10 @@ formed at (given (x, n)) v next e =
       place = sym (ap (λ (p : ℕ × ℕ). p .1) (p .1));
     }
 
+-- the place after a number that was read
+pub read-place : (bs : List ℕ) (at v next : ℕ) → readCall bs at ≡ given (v, next) → next ≡ at + length (numeral v)
+read-place bs at v next e = let r = formed at (valued 5 (drop at bs)) v next e in omega (arith, r .place, r .shortest)
+
 -- what was read is exactly that
 pub read-exactly : (bs : List ℕ) (at v next : ℕ) → ((i : ℕ) → getD bs i 0 < 256) → readCall bs at ≡ given (v, next) → Exactly bs at v next
 read-exactly bs at v next d e =
@@ -115,8 +133,45 @@ read-exactly bs at v next d e =
     let n : next - at ≡ r .count = omega (arith, r .place) in
     record {
       below = r .below;
-      place = r .place ∙ ap (λ (k : ℕ). at + k) (r .shortest);
+      place = read-place bs at v next e;
       bytes =
           ap (λ (k : ℕ). take k (drop at bs)) n
           ∙ valued-groups 5 (drop at bs) v (r .count) (λ i. rw (getD-drop at bs i 0) (d (at + i))) (r .says) (r .shortest);
     }
+
+-- ---- five bytes from its place on are enough to read a number
+
+-- what groups say is said by the first f bytes
+valued-front : (f : ℕ) (bs : List ℕ) → valued f (take f bs) ≡ valued f bs
+unfolding valued
+valued-front zero bs = refl
+valued-front (suc f) [] = refl
+valued-front (suc f) (b ∷ bs) =
+    ⊎-elim
+    (λ l. valued-last f b (take f bs) l ∙ sym (valued-last f b bs l))
+    (λ l. valued-more f b (take f bs) l ∙ ap (more b) (valued-front f bs) ∙ sym (valued-more f b bs l))
+    (low-or-high b)
+
+-- the bytes from a place on, of some at the front
+drop-take : (at j : ℕ) (bs : List ℕ) → drop at (take (at + j) bs) ≡ take j (drop at bs)
+drop-take zero j bs = rw (zero-add j)
+drop-take (suc at) j [] = rw (suc-add at j, take-nil j)
+drop-take (suc at) j (b ∷ bs) = rw (suc-add at j) (drop-take at j bs)
+
+pub read-front : (bs : List ℕ) (at m : ℕ) → at + 5 ≤ m → readCall (take m bs) at ≡ readCall bs at
+read-front bs at m h =
+    let e : m ≡ at + (m - at) = omega arith in
+    ap (inForm at)
+    (ap (λ (i : ℕ). valued 5 (drop at (take i bs))) e
+    ∙ ap (valued 5) (drop-take at (m - at) bs)
+    ∙ sym (valued-front 5 (take (m - at) (drop at bs)))
+    ∙ ap (valued 5) (take-take 5 (m - at) (drop at bs) (omega arith))
+    ∙ valued-front 5 (drop at bs))
+
+-- ---- a number that was read ends within the bytes
+
+pub read-inside : (bs : List ℕ) (at v next : ℕ) → readCall bs at ≡ given (v, next) → next ≤ length bs
+read-inside bs at v next e =
+    let r = formed at (valued 5 (drop at bs)) v next e in
+    let w = valued-within 5 (drop at bs) v (r .count) (r .says) in
+    omega (arith, r .place, w .0, rw length-drop at (w .1))

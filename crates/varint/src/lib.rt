@@ -50,7 +50,7 @@ fn read_groups(bytes: &[u8], at: usize) -> GroupsAnswer
 }
 
 // How many bytes a number has in its shortest form.
-fn count_groups(n: u32) -> usize
+pub fn number_length(n: u32) -> usize
     ensures { λ r. ⌜ r ≡ length (numeral n) ⌝ }
 {
     let mut left = n;
@@ -73,7 +73,7 @@ pub fn read_number(bytes: &[u8], at: usize) -> ReadAnswer
                 return ReadAnswer::Refused(refusal::FORM);
             }
             let number = value as u32;
-            if count_groups(number) != count {
+            if number_length(number) != count {
                 return ReadAnswer::Refused(refusal::FORM);
             }
             let next = at + count;
@@ -101,7 +101,7 @@ fn write_groups(n: u32, out: &mut [u8], at: usize)
 pub fn write_number(n: u32, out: &mut [u8], at: usize) -> WriteAnswer
     ensures { λ r. ⌜ (saidWrite r, now (out .exit)) ≡ writeCall n (now (out .entry)) at ⌝ }
 {
-    let count = count_groups(n);
+    let count = number_length(n);
     if out.len() < at {
         return WriteAnswer::Refused(refusal::LENGTH);
     }

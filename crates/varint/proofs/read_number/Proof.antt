@@ -36,8 +36,8 @@ returns c = let a = entry (c .before) .args in read-high (a .bytes .now) (a .at)
 cast-number : tie.Need-cast-number
 cast-number c = search needs
 
-count-groups-requires : tie.Need-count-groups-requires
-count-groups-requires c κs = search needs
+number-length-requires : tie.Need-number-length-requires
+number-length-requires c κs = search needs
 
 returns-2 : tie.Need-returns-2
 returns-2 c =
@@ -71,7 +71,7 @@ read-number-spec =
     enum-known-value
     returns
     cast-number
-    count-groups-requires
+    number-length-requires
     returns-2
     add-next
     returns-3

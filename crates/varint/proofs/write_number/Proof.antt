@@ -5,8 +5,8 @@ use Rattle.varint.proofs.Calls.{write-refused, write-given}
 use Rattle.varint.proofs.write_number.Statement.{statement}
 use Rattle.varint.proofs.write_number.Tie as tie
 
-count-groups-requires : tie.Need-count-groups-requires
-count-groups-requires c κs = search needs
+number-length-requires : tie.Need-number-length-requires
+number-length-requires c κs = search needs
 
 returns : tie.Need-returns
 returns c = let a = c .before .before .before .args in write-refused (a .n) (a .out .now) (a .at) (omega arith)
@@ -35,7 +35,7 @@ pub write-number-spec : {M : Type 1} → statement M
 write-number-spec =
     tie.close
     (tie.spec
-    count-groups-requires
+    number-length-requires
     returns
     sub-if2
     returns-2

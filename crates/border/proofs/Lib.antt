@@ -1,0 +1,5 @@
+pub mod Digits
+pub mod Bits
+pub mod Lists
+pub mod Walks
+pub mod Laws

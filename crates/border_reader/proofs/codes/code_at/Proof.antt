@@ -1,0 +1,65 @@
+-- `code_at` meets its contract: a code lies in two bytes. Assumes nothing.
+use Prim.Native.Nat.{ℕ, _<_}
+use borrow.Author.Needs.{needs}
+use native.Mathlib.Omega.{arith}
+use lib.ListN.{getD}
+use Rattle.border_reader.proofs.Bits.{code-in}
+use Rattle.border_reader.proofs.codes.code_at.Statement.{statement}
+use Rattle.border_reader.proofs.codes.code_at.Tie as tie
+
+below-256 : (c : tie.After-byte-at2) (i : ℕ) → getD (c .before .before .before .args .bytes .now) i 0 < 256
+below-256 c i = omega (arith, c .before .before .shared-slice-known .given i)
+
+-- the byte where the code begins, and the next
+first : (c : tie.After-byte-at2) → c .before .byte-at .result < 256
+first c = rw (c .before .byte-at .ensures) (below-256 c _)
+
+second : (c : tie.After-byte-at2) → c .byte-at2 .result < 256
+second c = rw (c .byte-at2 .ensures) (below-256 c _)
+
+mul-bit : tie.Need-mul-bit
+mul-bit c = search needs
+
+byte-at-requires : tie.Need-byte-at-requires
+byte-at-requires c κs = search needs
+
+add-byte-at : tie.Need-add-byte-at
+add-byte-at c = search needs
+
+byte-at-requires-2 : tie.Need-byte-at-requires-2
+byte-at-requires-2 c κs = search needs
+
+mul-both : tie.Need-mul-both
+mul-both c = omega (arith, second c)
+
+add-both : tie.Need-add-both
+add-both c = omega (arith, first c, second c)
+
+cast-result : tie.Need-cast-result
+cast-result c = search needs
+
+shr-result : tie.Need-shr-result
+shr-result c = search needs
+
+cast-result-2 : tie.Need-cast-result-2
+cast-result-2 c = search needs
+
+returns : tie.Need-returns
+returns c =
+    let a = c .before .before .before .args in
+    rw (c .before .byte-at .ensures, c .byte-at2 .ensures) (code-in (a .bytes .now) (a .i) (below-256 c))
+
+pub code-at-spec : {M : Type 1} → statement M
+code-at-spec =
+    tie.close
+    (tie.spec
+    mul-bit
+    byte-at-requires
+    add-byte-at
+    byte-at-requires-2
+    mul-both
+    add-both
+    cast-result
+    shr-result
+    cast-result-2
+    returns)

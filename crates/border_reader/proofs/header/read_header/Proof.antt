@@ -1,0 +1,139 @@
+-- `read_header` meets its contract: three numbers, each with its bound. Assumes nothing.
+use Prim.Native.Nat.{_≤_, _<_}
+use mathlib.Core.Path.{_≡_, sym, ap, _∙_}
+use native.Mathlib.Omega.{arith}
+use borrow.Author.Needs.{needs}
+use lib.ListN.{length}
+use Rattle.refusal.specs.Answer.{given}
+use Rattle.varint.specs.Varint.{readCall, saidRead}
+use Rattle.varint.proofs.Laws.{read-inside}
+use Rattle.cell.specs.Cell.{cells}
+use Rattle.cell.proofs.Laws.{past-level, below-level}
+use Rattle.border_reader.proofs.Reading.{level-unread, level-high, start-unread, start-high, count-unread, count-high, header-read}
+use Rattle.border_reader.proofs.header.read_header.Statement.{statement}
+use Rattle.border_reader.proofs.header.read_header.Tie as tie
+
+read-number-requires : tie.Need-read-number-requires
+read-number-requires c κs = search needs
+
+enum-known-n : tie.Need-enum-known-n
+enum-known-n c = search needs
+
+enum-known-level : tie.Need-enum-known-level
+enum-known-level c = search needs
+
+-- the bytes, and what is told of each number that was read
+abbrev at-level : tie.After-known-told2 → tie.Start
+at-level t = t .before .before .before .before .before
+
+abbrev at-start : tie.After-known-told4 → tie.After-known-told2
+at-start t = t .before .before .before .before .before
+
+abbrev at-count : tie.After-known-told6 → tie.After-known-told4
+at-count t = t .before .before .before .before .before
+
+level-told : (t : tie.After-known-told2) →
+    let g = t .before .level .given .0 in
+    given (g .0, g .1 .0) ≡ readCall (at-level t .args .bytes .now) 0
+level-told t = sym (ap saidRead (t .before .level .given .1)) ∙ t .before .before .before .read-number .ensures
+
+start-told : (t : tie.After-known-told4) →
+    let g = t .before .start .given .0 in
+    given (g .0, g .1 .0) ≡ readCall (at-level (at-start t) .args .bytes .now) (at-start t .before .level .given .0 .1 .0)
+start-told t = sym (ap saidRead (t .before .start .given .1)) ∙ t .before .before .before .read-number2 .ensures
+
+count-told : (t : tie.After-known-told6) →
+    let g = t .before .count .given .0 in
+    given (g .0, g .1 .0) ≡ readCall (at-level (at-start (at-count t)) .args .bytes .now) (at-count t .before .start .given .0 .1 .0)
+count-told t = sym (ap saidRead (t .before .count .given .1)) ∙ t .before .before .before .read-number3 .ensures
+
+count-inside : (t : tie.After-known-told6) → t .before .count .given .0 .1 .0 ≤ length (at-level (at-start (at-count t)) .args .bytes .now)
+count-inside t =
+    let g = t .before .count .given .0 in
+    read-inside (at-level (at-start (at-count t)) .args .bytes .now) (at-count t .before .start .given .0 .1 .0) (g .0) (g .1 .0) (sym (count-told t))
+
+-- the start cell is one of the level
+start-below : (c : tie.Else2) → c .before .before .start .given .0 .0 < cells (at-start (c .before) .before .level .given .0 .0)
+start-below c = below-level _ _ (c .if2 .left)
+
+returns : tie.Need-returns
+returns c = (level-high _ _ _ (level-told (c .before)) (omega arith), tt)
+
+read-number-requires-2 : tie.Need-read-number-requires-2
+read-number-requires-2 c κs = search needs
+
+enum-known-n-2 : tie.Need-enum-known-n-2
+enum-known-n-2 c = search needs
+
+enum-known-start : tie.Need-enum-known-start
+enum-known-start c = search needs
+
+mul-if2 : tie.Need-mul-if2
+mul-if2 c = search needs
+
+shr-if2 : tie.Need-shr-if2
+shr-if2 c = search needs
+
+returns-2 : tie.Need-returns-2
+returns-2 c = let t = at-start (c .before) in (start-high _ _ _ (level-told t) (omega arith) _ _ (start-told (c .before)) (past-level _ _ (c .if2 .taken)), tt)
+
+read-number-requires-3 : tie.Need-read-number-requires-3
+read-number-requires-3 c κs = search needs
+
+enum-known-n-3 : tie.Need-enum-known-n-3
+enum-known-n-3 c = search needs
+
+enum-known-count : tie.Need-enum-known-count
+enum-known-count c = search needs
+
+returns-3 : tie.Need-returns-3
+returns-3 c =
+    let e = c .before .before .before .before .before in
+    let t = at-start (e .before) in
+    (count-high _ _ _ (level-told t) (omega arith) _ _ (start-told (e .before)) (start-below e) _ _ (count-told (c .before)) (omega arith), tt)
+
+returns-4 : tie.Need-returns-4
+returns-4 c = (level-unread _ _ (sym (ap saidRead (c .before .n .given .1)) ∙ c .before .before .before .read-number .ensures), tt)
+
+returns-5 : tie.Need-returns-5
+returns-5 c =
+    let t = c .before .before .before .before .before in
+    (start-unread _ _ _ (level-told t) _ (omega arith) (sym (ap saidRead (c .before .n2 .given .1)) ∙ c .before .before .before .read-number2 .ensures), tt)
+
+returns-6 : tie.Need-returns-6
+returns-6 c =
+    let e = c .before .before .before .before in
+    let t = at-start (e .before) in (
+      count-unread _ _ _ (level-told t) (omega arith) _ _ (start-told (e .before)) _ (start-below e)
+          (sym (ap saidRead (c .before .n3 .given .1)) ∙ c .before .before .before .read-number3 .ensures),
+      tt,
+    )
+
+returns-7 : tie.Need-returns-7
+returns-7 c =
+    let e = c .before .before .before .before .before in
+    let t = at-start (e .before) in
+    (header-read _ _ _ (level-told t) (omega arith) _ _ (start-told (e .before)) (start-below e) _ _ (count-told (c .before)) (omega arith), (omega arith, count-inside (c .before)))
+
+pub read-header-spec : {M : Type 1} → statement M
+read-header-spec =
+    tie.close
+    (tie.spec
+    read-number-requires
+    enum-known-n
+    enum-known-level
+    returns
+    read-number-requires-2
+    enum-known-n-2
+    enum-known-start
+    mul-if2
+    shr-if2
+    returns-2
+    read-number-requires-3
+    enum-known-n-3
+    enum-known-count
+    returns-3
+    returns-4
+    returns-5
+    returns-6
+    returns-7)

@@ -1,0 +1,108 @@
+-- `pack` meets its contract. The invariant: the codes that are left, after the bits that fill no byte yet, put into the slice as it is from `place` on,
+-- make the slice that is asked for. The measure is how many codes are left. Assumes nothing.
+use Prim.Native.Nat.{_*_, _-_, _%_, _^_, _<_}
+use mathlib.Core.Path.{_≡_, sym}
+use mathlib.Core.Logic.{⊎-elim}
+use native.Mathlib.Omega.{arith}
+use lib.ListN.{length, getD, length-set}
+use Rattle.border_writer.proofs.Packing.{Packing, packing-none, packing-held, packing-shift, packing-stay, packing-put, packing-last, packing-done}
+use Rattle.border_writer.proofs.codes.pack.Statement.{statement}
+use Rattle.border_writer.proofs.codes.pack.Tie as tie
+
+abbrev Inv-loop : tie.InvT-loop
+Inv-loop codes out₀ at held₀ bits₀ place₀ i₀ out held bits place i = Packing codes out₀ at out held bits place i
+
+abbrev μ-loop : tie.MeasureT-loop
+μ-loop codes out₀ at held₀ bits₀ place₀ i₀ out held bits place i = length codes - i
+
+loop-holds : tie.Need-loop-holds Inv-loop μ-loop
+loop-holds c = packing-none (c .args .codes .now) (c .args .out .now) (c .args .at)
+
+shared-slice-read-held : tie.Need-shared-slice-read-held Inv-loop μ-loop
+shared-slice-read-held c = omega arith
+
+-- the code that is put
+code : (c : tie.After-shared-slice-known Inv-loop μ-loop) → getD (c .before .before .before .args .codes .now) (c .before .before .loop .i) 0 < 8
+code c = c .before .before .before .pre .0 (c .before .before .loop .i)
+
+cast-held : tie.Need-cast-held Inv-loop μ-loop
+cast-held c = omega (arith, code c)
+
+shl-held : tie.Need-shl-held Inv-loop μ-loop
+shl-held c = omega arith
+
+add-held : tie.Need-add-held Inv-loop μ-loop
+add-held c = omega (arith, code c, packing-held _ _ _ _ _ _ _ _ (c .before .before .loop .inv), packing-shift _ _ _ _ _ _ _ _ (c .before .before .loop .inv) _ (code c))
+
+add-bits : tie.Need-add-bits Inv-loop μ-loop
+add-bits c = omega arith
+
+cast-out : tie.Need-cast-out Inv-loop μ-loop
+cast-out c = omega arith
+
+slice-write-out : tie.Need-slice-write-out Inv-loop μ-loop
+slice-write-out c = omega arith
+
+add-place : tie.Need-add-place Inv-loop μ-loop
+add-place c = omega arith
+
+add-i : tie.Need-add-i Inv-loop μ-loop
+add-i c = omega arith
+
+loop-less : tie.Need-loop-less Inv-loop μ-loop
+loop-less c = omega arith
+
+loop-again : tie.Need-loop-again Inv-loop μ-loop
+loop-again c =
+    let k = c .before in
+    let inv = k .before .before .loop .inv in
+    let l = packing-shift _ _ _ _ _ _ _ _ inv _ (code k) in
+    let s : getD (k .before .before .before .args .codes .now) (k .before .before .loop .i) 0 * 2 ^ k .before .before .loop .bits % 2 ^ 32
+    ≡ getD (k .before .before .before .args .codes .now) (k .before .before .loop .i) 0 * 2 ^ k .before .before .loop .bits = omega arith in
+    ⊎-elim
+    (λ w. rw (w .1, w .2, w .3, w .4, s) (packing-put _ _ _ _ _ _ _ _ inv (omega arith) (k .before .before .before .pre .0) (omega arith)))
+    (λ w. rw (w .1, w .2, w .3, w .4, s) (packing-stay _ _ _ _ _ _ _ _ inv (omega arith) (k .before .before .before .pre .0) (omega arith)))
+    (c .if1 .came)
+
+cast-out-2 : tie.Need-cast-out-2 Inv-loop μ-loop
+cast-out-2 c = omega (arith, packing-held _ _ _ _ _ _ _ _ (c .before .before .loop .inv))
+
+slice-write-out-2 : tie.Need-slice-write-out-2 Inv-loop μ-loop
+slice-write-out-2 c = omega arith
+
+same-length : tie.Need-same-length Inv-loop μ-loop
+same-length c = simp length-set (c .before .before .loop .inv .same)
+
+returns : tie.Need-returns Inv-loop μ-loop
+returns c = sym (packing-last _ _ _ _ _ _ _ _ (c .before .before .loop .inv) (omega arith) (omega arith))
+
+same-length-2 : tie.Need-same-length-2 Inv-loop μ-loop
+same-length-2 c = omega arith
+
+returns-2 : tie.Need-returns-2 Inv-loop μ-loop
+returns-2 c = sym (packing-done _ _ _ _ _ _ _ _ (c .before .before .loop .inv) (omega arith) (omega arith))
+
+pub pack-spec : {M : Type 1} → statement M
+pack-spec =
+    tie.close
+    (tie.spec
+    Inv-loop
+    μ-loop
+    loop-holds
+    shared-slice-read-held
+    cast-held
+    shl-held
+    add-held
+    add-bits
+    cast-out
+    slice-write-out
+    add-place
+    add-i
+    loop-less
+    loop-again
+    cast-out-2
+    slice-write-out-2
+    same-length
+    returns
+    same-length-2
+    returns-2)

@@ -1,0 +1,113 @@
+-- `find_codes` meets its contract. The invariant: the codes between the first i + 1 cells are found. The measure is what is left. Assumes nothing.
+use Prim.Native.Nat.{ℕ, _+_, _-_, _≤_}
+use mathlib.Core.Path.{_≡_, refl, sym, ap, _∙_}
+use mathlib.Core.Bool.{false≢true}
+use mathlib.Core.List.{[]}
+use native.Mathlib.Omega.{arith}
+use borrow.Author.Needs.{needs}
+use lib.ListN.{length, take, length-set, drop-of-length-le}
+use Rattle.step.specs.Step.{foundOr, saidCode}
+use Rattle.border.specs.Stored.{found}
+use Rattle.border_writer.proofs.Writing.{Joined, none-joined, one-joined, not-joined, all-joined}
+use Rattle.border_writer.proofs.parts.find_codes.Statement.{statement}
+use Rattle.border_writer.proofs.parts.find_codes.Tie as tie
+use Rattle.step.proofs.code_between.Reads as code-between-reads
+
+abbrev Inv-loop : tie.InvT-loop
+Inv-loop level cells codes₀ i₀ codes i = (i + 1 ≤ length cells) × (length codes ≡ length codes₀) × Joined level cells codes i
+
+abbrev μ-loop : tie.MeasureT-loop
+μ-loop level cells codes₀ i₀ codes i = length cells - i
+
+loop-holds : tie.Need-loop-holds Inv-loop μ-loop
+loop-holds c = (omega arith, refl, none-joined _ _ _)
+
+add-loop : tie.Need-add-loop Inv-loop μ-loop
+add-loop c = search needs
+
+mul-code-between : tie.Need-mul-code-between Inv-loop μ-loop
+mul-code-between c = search needs
+
+shared-slice-read-code-between : tie.Need-shared-slice-read-code-between Inv-loop μ-loop
+shared-slice-read-code-between c = search needs
+
+add-code-between : tie.Need-add-code-between Inv-loop μ-loop
+add-code-between c = search needs
+
+mul-code-between-2 : tie.Need-mul-code-between-2 Inv-loop μ-loop
+mul-code-between-2 c = search needs
+
+shared-slice-read-code-between-2 : tie.Need-shared-slice-read-code-between-2 Inv-loop μ-loop
+shared-slice-read-code-between-2 c = search needs
+
+code-between-requires : tie.Need-code-between-requires Inv-loop μ-loop
+code-between-requires c κs = search needs
+
+enum-told : tie.Need-enum-told Inv-loop μ-loop
+enum-told c = search needs
+
+same-length : tie.Need-same-length Inv-loop μ-loop
+same-length c = c .before .before .before .before .before .before .loop .inv .1
+
+returns : tie.Need-returns Inv-loop μ-loop
+returns c =
+    let l = c .before .before .before .before .before .before .loop in
+    let none = not-joined _ _ _ _ (l .inv .2) (omega arith) _ (sym (c .before .before .code-between .ensures) ∙ ap saidCode (c .enum-told .given .1)) in
+    (sym (ap found none), λ t. absurd (false≢true t))
+
+enum-known-code : tie.Need-enum-known-code Inv-loop μ-loop
+enum-known-code c = search needs
+
+slice-write-codes : tie.Need-slice-write-codes Inv-loop μ-loop
+slice-write-codes c = omega arith
+
+add-i : tie.Need-add-i Inv-loop μ-loop
+add-i c = search needs
+
+loop-less : tie.Need-loop-less Inv-loop μ-loop
+loop-less c = omega arith
+
+loop-again : tie.Need-loop-again Inv-loop μ-loop
+loop-again c =
+    let l = c .before .before .before .before .before .before .before .loop in (
+      omega arith,
+      simp length-set (l .inv .1),
+      one-joined _ _ _ _ (l .inv .2) (omega arith) _
+          (sym (c .before .before .before .code-between .ensures) ∙ ap saidCode (c .before .code .given .1)) (omega arith),
+    )
+
+same-length-2 : tie.Need-same-length-2 Inv-loop μ-loop
+same-length-2 c = c .before .loop .inv .1
+
+returns-2 : tie.Need-returns-2 Inv-loop μ-loop
+returns-2 c =
+    let l = c .before .loop in
+    let a = c .before .before .before .before .args in
+    let e : l .i ≡ length (a .cells .now) - 1 = omega arith in
+    let all = all-joined _ _ _ _ (l .inv .2) (drop-of-length-le (a .cells .now) {i = l .i + 1} (omega arith)) in
+    (sym (ap found all), λ t. ap (λ (n : ℕ). take n (l .codes)) (sym e) ∙ sym (ap (foundOr []) all))
+
+pub find-codes-spec : {M : Type 1} → statement M
+find-codes-spec =
+    tie.close
+    (tie.spec
+    Inv-loop
+    μ-loop
+    loop-holds
+    add-loop
+    mul-code-between
+    shared-slice-read-code-between
+    add-code-between
+    mul-code-between-2
+    shared-slice-read-code-between-2
+    code-between-requires
+    enum-told
+    same-length
+    returns
+    enum-known-code
+    slice-write-codes
+    add-i
+    loop-less
+    loop-again
+    same-length-2
+    returns-2)

@@ -1,0 +1,59 @@
+-- `ticklocust_reading` meets its contract. Assumes nothing.
+use mathlib.Core.Path.{refl}
+use lib.Ieee as Ieee
+use borrow.Author.Needs.{needs}
+use Rattle.chart.specs.Chart.{saidReading}
+use Rattle.ticklocust.specs.Interface.{kindTemperatureDays}
+use Rattle.ticklocust.proofs.Told.{form-refused, form-told}
+use Rattle.ticklocust.proofs.charts.ticklocust_reading.Statement.{statement}
+use Rattle.ticklocust.proofs.charts.ticklocust_reading.Tie as tie
+
+reading-of-requires : tie.Need-reading-of-requires
+reading-of-requires c κs = search needs
+
+enum-known-t : tie.Need-enum-known-t
+enum-known-t c = search needs
+
+enum-known-t-2 : tie.Need-enum-known-t-2
+enum-known-t-2 c = search needs
+
+cast-days : tie.Need-cast-days
+cast-days c = search needs
+
+enum-told : tie.Need-enum-told
+enum-told c = search needs
+
+enum-known-n : tie.Need-enum-known-n
+enum-known-n c = search needs
+
+cast-result : tie.Need-cast-result
+cast-result c = search needs
+
+returns : tie.Need-returns
+returns c = form-told saidReading kindTemperatureDays _ _ _ (c .before .before .before .reading-of .ensures) (c .before .t .given .1) _ _ refl
+
+returns-2 : tie.Need-returns-2
+returns-2 c = form-told saidReading kindTemperatureDays _ _ _ (c .before .before .before .reading-of .ensures) (c .before .t2 .given .1) _ _ refl
+
+returns-3 : tie.Need-returns-3
+unfolding Ieee.ofBits
+returns-3 c = form-told saidReading kindTemperatureDays _ _ _ (c .before .before .reading-of .ensures) (c .enum-told .given .1) _ _ refl
+
+returns-4 : tie.Need-returns-4
+returns-4 c = form-refused saidReading kindTemperatureDays _ _ _ (c .before .before .before .reading-of .ensures) (c .before .n .given .1) _ _ refl
+
+pub ticklocust-reading-spec : {M : Type 1} → statement M
+ticklocust-reading-spec =
+    tie.close
+    (tie.spec
+    reading-of-requires
+    enum-known-t
+    enum-known-t-2
+    cast-days
+    enum-told
+    enum-known-n
+    cast-result
+    returns
+    returns-2
+    returns-3
+    returns-4)

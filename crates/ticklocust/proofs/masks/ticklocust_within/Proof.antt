@@ -1,0 +1,45 @@
+-- `ticklocust_within` meets its contract. Assumes nothing.
+use mathlib.Core.Path.{refl}
+use borrow.Author.Needs.{needs}
+use Rattle.mask.specs.Mask.{saidWithin}
+use Rattle.ticklocust.specs.Interface.{lackingCell}
+use Rattle.ticklocust.proofs.Told.{form-refused, form-told}
+use Rattle.ticklocust.proofs.masks.ticklocust_within.Statement.{statement}
+use Rattle.ticklocust.proofs.masks.ticklocust_within.Tie as tie
+
+within-requires : tie.Need-within-requires
+within-requires c κs = search needs
+
+enum-told : tie.Need-enum-told
+enum-told c = search needs
+
+enum-known-cell : tie.Need-enum-known-cell
+enum-known-cell c = search needs
+
+enum-known-n : tie.Need-enum-known-n
+enum-known-n c = search needs
+
+cast-result : tie.Need-cast-result
+cast-result c = search needs
+
+returns : tie.Need-returns
+returns c = form-told saidWithin lackingCell _ _ _ (c .before .before .within .ensures) (c .enum-told .given .1) _ _ refl
+
+returns-2 : tie.Need-returns-2
+returns-2 c = form-told saidWithin lackingCell _ _ _ (c .before .before .before .within .ensures) (c .before .cell .given .1) _ _ refl
+
+returns-3 : tie.Need-returns-3
+returns-3 c = form-refused saidWithin lackingCell _ _ _ (c .before .before .before .within .ensures) (c .before .n .given .1) _ _ refl
+
+pub ticklocust-within-spec : {M : Type 1} → statement M
+ticklocust-within-spec =
+    tie.close
+    (tie.spec
+    within-requires
+    enum-told
+    enum-known-cell
+    enum-known-n
+    cast-result
+    returns
+    returns-2
+    returns-3)

@@ -1,0 +1,33 @@
+-- `ticklocust_centre` meets its contract. Assumes nothing.
+use mathlib.Core.Path.{refl, _∙_, ap₂}
+use lib.IntN.{ℤ}
+use borrow.Author.Needs.{needs}
+use Rattle.position.specs.Position.{saidCentre}
+use Rattle.ticklocust.proofs.Told.{value-refused, value-told}
+use Rattle.ticklocust.proofs.ticklocust_centre.Statement.{statement}
+use Rattle.ticklocust.proofs.ticklocust_centre.Tie as tie
+
+centre-of-requires : tie.Need-centre-of-requires
+centre-of-requires c κs = search needs
+
+enum-known-north : tie.Need-enum-known-north
+enum-known-north c = search needs
+
+enum-known-n : tie.Need-enum-known-n
+enum-known-n c = search needs
+
+cast-result : tie.Need-cast-result
+cast-result c = search needs
+
+returns : tie.Need-returns
+returns c =
+    ap₂ (λ (y x : ℤ). (0, (y, x))) (search needs) (search needs)
+    ∙ value-told saidCentre _ _ _ (c .before .before .before .before .before .centre-of .ensures) (c .before .before .before .north .given .1) _ _ refl
+
+returns-2 : tie.Need-returns-2
+returns-2 c = value-refused saidCentre _ _ _ (c .before .before .before .centre-of .ensures) (c .before .n .given .1) _ _ refl
+
+pub ticklocust-centre-spec : {M : Type 1} → statement M
+ticklocust-centre-spec =
+    tie.close
+    (tie.spec centre-of-requires enum-known-north enum-known-n cast-result returns returns-2)

@@ -1,0 +1,77 @@
+// Charts: the reading of a cell and one day.
+ghost use mathlib.Core.Path.{_≡_};
+ghost use Rattle.chart.specs.Chart.{readingCall};
+ghost use Rattle.chart.specs.Day.{dayCall};
+ghost use Rattle.ticklocust.specs.Interface.{told, toldLent, inC, kindTemperatureDays};
+use chart::DayAnswer;
+use chart::ReadingAnswer;
+
+const FRESH: u32 = 0;
+
+const CARRIED: u32 = 1;
+
+const GAP: u32 = 2;
+
+#[no_mangle]
+pub extern "C" fn ticklocust_reading(
+    level: u32,
+    cell: u32,
+    temperatures: &[f32],
+    ages: &[u8],
+    kind: &mut u32,
+    temperature: &mut f32,
+    days: &mut u32,
+) -> u32
+    ensures { λ r. ⌜ (r, (now (kind .exit), now (temperature .exit), now (days .exit)))
+        ≡ told (inC kindTemperatureDays (readingCall level (now (temperatures .entry)) (now (ages .entry)) cell))
+        (now (kind .entry), now (temperature .entry), now (days .entry)) ⌝ }
+{
+    match chart::reading_of(level, temperatures, ages, cell) {
+        ReadingAnswer::Fresh(t) => {
+            *kind = FRESH;
+            *temperature = t;
+            *days = 0;
+            0
+        }
+        ReadingAnswer::Carried(t, d) => {
+            *kind = CARRIED;
+            *temperature = t;
+            *days = d as u32;
+            0
+        }
+        ReadingAnswer::Gap => {
+            *kind = GAP;
+            *temperature = 0.0;
+            *days = 0;
+            0
+        }
+        ReadingAnswer::Refused(n) => n as u32,
+    }
+}
+
+#[no_mangle]
+pub extern "C" fn ticklocust_day(
+    level: u32,
+    limit: u32,
+    news: &[f32],
+    cloud: &[u8],
+    temperatures: &mut [f32],
+    ages: &mut [u8],
+    count: &mut u32,
+    coldest: &mut f32,
+    warmest: &mut f32,
+) -> u32
+    ensures { λ r. ⌜ ((r, (now (count .exit), now (coldest .exit), now (warmest .exit))), (now (temperatures .exit), now (ages .exit)))
+        ≡ toldLent (dayCall level limit (now (news .entry)) (now (cloud .entry)) (now (temperatures .entry)) (now (ages .entry)))
+        (now (count .entry), now (coldest .entry), now (warmest .entry)) ⌝ }
+{
+    match chart::day(level, limit, news, cloud, temperatures, ages) {
+        DayAnswer::Summed(summary) => {
+            *count = summary.count;
+            *coldest = summary.coldest;
+            *warmest = summary.warmest;
+            0
+        }
+        DayAnswer::Refused(n) => n as u32,
+    }
+}
