@@ -34,16 +34,16 @@ not-a-number = (refl, infinity)
 
 -- ---- the three readings are different
 
-gap≢fresh : {A : Type 0} {t : Float} → gap ≡ fresh t → A
+pub gap≢fresh : {A : Type 0} {t : Float} → gap ≡ fresh t → A
 gap≢fresh e = let z : _≡_ {A = ℕ} 0 1 = cc in absurd (omega arith)
 
 gap≢carried : {A : Type 0} {t : Float} {n : ℕ} → gap ≡ carried t n → A
 gap≢carried e = let z : _≡_ {A = ℕ} 0 1 = cc in absurd (omega arith)
 
-fresh≢carried : {A : Type 0} {t u : Float} {n : ℕ} → fresh t ≡ carried u n → A
+pub fresh≢carried : {A : Type 0} {t u : Float} {n : ℕ} → fresh t ≡ carried u n → A
 fresh≢carried e = let z : _≡_ {A = ℕ} 0 1 = cc in absurd (omega arith)
 
-fresh-same : {t u : Float} → fresh t ≡ fresh u → t ≡ u
+pub fresh-same : {t u : Float} → fresh t ≡ fresh u → t ≡ u
 fresh-same e = cc
 
 carried-same : {t u : Float} {m n : ℕ} → carried t m ≡ carried u n → (t ≡ u) × (m ≡ n)

@@ -1,8 +1,9 @@
 -- One day of a chart (document 01, "Charts and ages"): it reads new temperatures and a cloud mask, rewrites the chart's two slices, and answers a
 -- summary of the chart that it leaves.
-use Prim.Native.Nat.{ℕ, zero, suc, _+_, _^_}
+use Prim.Native.Nat.{ℕ, zero, suc, _+_, _^_, _<_}
 use mathlib.Core.Bool.{Bool, true, false, _&&_, not, cond}
 use mathlib.Core.List.{List, [], _∷_, _++_}
+use mathlib.Core.Path.{_≡_}
 use lib.Dec.{leb, ltb, eqb}
 use lib.IntN.{pos}
 use lib.Ieee as Ieee
@@ -79,6 +80,24 @@ isFresh gap = false
 unfoldable pub summaryOf : ℕ → (ℕ → Reading) → Summary
 summaryOf zero reads = none
 summaryOf (suc n) reads = withCell (summaryOf n reads) (reads n)
+
+-- x is the foremost of the fresh temperatures of n cells, by two comparisons, ahead and not behind; Reads c t says that cell c reads fresh with t
+pub record Foremost (ahead notBehind : Float → Float → Bool) (n : ℕ) (Reads : ℕ → Float → Type 0) (x : Float) : Type 0 where
+  -- it is the temperature of one of the cells
+  pub cell : ℕ
+  pub inside : cell < n
+  pub own : Reads cell x
+  -- it bounds those of all
+  pub bounds : (c : ℕ) → c < n → (t : Float) → Reads c t → notBehind x t ≡ true
+  -- it is ahead of those of all cells before its own: "on equal temperatures the first in cell order stands"
+  pub first : (c : ℕ) → c < cell → (t : Float) → Reads c t → ahead x t ≡ true
+
+-- "coldest and warmest of the fresh cells"
+abbrev pub Coldest : ℕ → (ℕ → Float → Type 0) → Float → Type 0
+Coldest = Foremost (λ x t. Ieee.lt x t) (λ x t. Ieee.le x t)
+
+abbrev pub Warmest : ℕ → (ℕ → Float → Type 0) → Float → Type 0
+Warmest = Foremost (λ x t. Ieee.lt t x) (λ x t. Ieee.le t x)
 
 -- ---- the call
 

@@ -25,7 +25,7 @@ use Rattle.touch.proofs.Laws.{touching-6, touching-10, touching-12, cells-at-4,
 use Rattle.touch.proofs.Indirect.{direct-3, indirect-3, indirect-7}
 use Rattle.fill.proofs.Laws.{fill-exactly, border-filled, outside-not-filled}
 use Rattle.demands.specs.Demand2.{Demand2}
-use Rattle.demands.proofs.Charts.{day-fresh, day-carried}
+use Rattle.demands.proofs.Charts.{day-fresh, day-carried, day-count, day-coldest, day-warmest, day-none}
 use Rattle.demands.proofs.Codes.{inside-octant, T-leads, E-leads, W-leads, direct-step}
 use Rattle.demands.proofs.Touching.{touch-point, touch-mutual, neighbours-touch, listing, touch-list}
 
@@ -139,4 +139,8 @@ demand-2 = record {
   outside-open = outside-not-filled;
   day-fresh = day-fresh;
   day-carried = day-carried;
+  day-count = day-count;
+  day-coldest = day-coldest;
+  day-warmest = day-warmest;
+  day-none = day-none;
 }

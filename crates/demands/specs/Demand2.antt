@@ -1,14 +1,15 @@
--- Demand 2: cells and their numbers, positions, centres, steps, touching, filling and a day's freshness are as document 01 says, by the calls' answers.
+-- Demand 2: cells and their numbers, positions, centres, steps, touching, filling, and what a day leaves and answers are as document 01 says, by the
+-- calls' answers.
 use Prim.Native.Nat.{ℕ, suc, _+_, _*_, _-_, _/_, _^_, _≤_, _<_}
 use mathlib.Core.Path.{_≡_}
-use mathlib.Core.Bool.{true, false}
+use mathlib.Core.Bool.{Bool, true, false}
 use mathlib.Core.List.{List, [], _∷_, _++_, map}
 use mathlib.Core.Logic.{_⊎_, _↔_}
 use lib.IntN.{ℤ, pos, natAbs, negℤ, _+ℤ_}
 use lib.ListN.{length, replicate}
 use lib.Ieee.{Float}
-use Rattle.refusal.specs.Answer.{given, refused, done}
-use Rattle.bitset.specs.Bits.{marked}
+use Rattle.refusal.specs.Answer.{Answer, given, refused, done}
+use Rattle.bitset.specs.Bits.{marked, size}
 use Rattle.cell.specs.Cell.{Frame, up, down, child, Place, place, Occurs, cells, maxLevel, placeCall, numberCall}
 use Rattle.position.specs.Position.{q, latitudeOut, longitudeOut, beginning, northOctant, offset, octant, Holds, cellCall, centreCall}
 use Rattle.step.specs.Step.{across, east, west, stepCall, codeCall}
@@ -16,8 +17,8 @@ use Rattle.step.specs.Neighbours.{back, direct, isDirect, Neighbours}
 use Rattle.corner.specs.Corner.{Point, norm, corners, touchCall}
 use Rattle.touch.specs.Touch.{rising, indirect, CornerCell, cellsAt, Tip, unused, listCall}
 use Rattle.fill.specs.Fill.{Reachable, fillCall}
-use Rattle.chart.specs.Chart.{inRange, fresh, carried, temperatureAt, ageAt, readingCall}
-use Rattle.chart.specs.Day.{Summary, dayCall}
+use Rattle.chart.specs.Chart.{inRange, Reading, fresh, carried, temperatureAt, ageAt, readingCall}
+use Rattle.chart.specs.Day.{nought, Summary, isFresh, Coldest, Warmest, dayCall}
 
 -- ---- the steps inside an octant, line by line
 
@@ -54,6 +55,13 @@ pub record TouchList (k n j : ℕ) (slice : List ℕ) : Type 0 where
   pub holds : slice ≡ listed ++ replicate (12 - j) unused
   pub rises : Rises 0 listed
   pub exactly : (m : ℕ) → In m listed ↔ (touchCall k n m ≡ given true)
+
+-- ---- readings
+
+-- whether a call answers fresh
+abbrev pub answersFresh : Answer Reading → Bool
+answersFresh (given r) = isFresh r
+answersFresh (refused n) = false
 
 -- ---- the demand
 
@@ -163,3 +171,18 @@ pub record Demand2 : Type 0 where
       after .0 ≡ given s → (c : ℕ) → c < cells k → (t : Float) (m : ℕ) →
       readingCall k (after .1 .0) (after .1 .1) c ≡ given (carried t m) →
       (m ≡ ageAt ages c + 1) × (m ≤ d) × (t ≡ temperatureAt temps c)
+  -- the summary's count is the number of cells that read fresh after the day
+  pub day-count : (k d : ℕ) (new : List Float) (clouds : List ℕ) (temps : List Float) (ages : List ℕ) (s : Summary) →
+      let after = dayCall k d new clouds temps ages in
+      after .0 ≡ given s → s .0 ≡ size (cells k) (λ c. answersFresh (readingCall k (after .1 .0) (after .1 .1) c))
+  -- where it is above 0, coldest is the temperature of a cell that reads fresh, at most that of any such cell, and of equals that of the first
+  pub day-coldest : (k d : ℕ) (new : List Float) (clouds : List ℕ) (temps : List Float) (ages : List ℕ) (s : Summary) →
+      let after = dayCall k d new clouds temps ages in
+      after .0 ≡ given s → 1 ≤ s .0 → Coldest (cells k) (λ c t. readingCall k (after .1 .0) (after .1 .1) c ≡ given (fresh t)) (s .1)
+  -- and warmest likewise, at least that of any
+  pub day-warmest : (k d : ℕ) (new : List Float) (clouds : List ℕ) (temps : List Float) (ages : List ℕ) (s : Summary) →
+      let after = dayCall k d new clouds temps ages in
+      after .0 ≡ given s → 1 ≤ s .0 → Warmest (cells k) (λ c t. readingCall k (after .1 .0) (after .1 .1) c ≡ given (fresh t)) (s .2)
+  -- where it is 0 they are 0.0 twice
+  pub day-none : (k d : ℕ) (new : List Float) (clouds : List ℕ) (temps : List Float) (ages : List ℕ) (s : Summary) →
+      dayCall k d new clouds temps ages .0 ≡ given s → s .0 ≡ 0 → (s .1 ≡ nought) × (s .2 ≡ nought)
