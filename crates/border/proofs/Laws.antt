@@ -11,9 +11,9 @@ use borrow.Author.Tests.{le-ltb, lt-ltb, ltb-false, lt-leb, leb-true, leb-false,
 use lib.Dec.{leb}
 use lib.ListN.{length, take, drop, getD, length-append, length-drop, take-append-drop}
 use lib.Seq.{length-take-le, take-all, drop-cons, drop-drop, drop-at, getD-drop, take-append-seam}
-use Rattle.refusal.specs.Answer.{Answer, given, refused, Test, _when_, inOrder}
+use Rattle.refusal.specs.Answer.{Answer, given, refused, Test, _when_, inOrder, First}
 use Rattle.refusal.specs.Tests.{badLevel}
-use Rattle.refusal.proofs.Answers.{Passed, First, passed, gives, refuses, given-same, same-refusal, passed-on, lent-given, lent-refused}
+use Rattle.refusal.proofs.Answers.{Passed, passed, gives, refuses, given-same, same-refusal, passed-on, lent-given, lent-refused}
 use Rattle.refusal.proofs.Tests.{clash, left}
 use Rattle.varint.specs.Varint.{numeral, readCall, Exactly}
 use Rattle.varint.proofs.Laws as numbers
@@ -23,7 +23,7 @@ use Rattle.step.proofs.Calls.{is-found}
 use Rattle.border.specs.Stored.{valueOf, codeBytes, packed, unpacked, stored, walked, codesBetween}
 use Rattle.border.specs.Border.{maxCodes, badCount, value, after, badNumber, levelRead, startRead, countRead}
 use Rattle.border.specs.Border.{Header, header, headerTests, codeTests, readTests}
-use Rattle.border.specs.Border.{cellsOf, cellsRead, readBorder, anyFrom, codesOf, bytesOf, writeTests, writeBorder}
+use Rattle.border.specs.Border.{cellsOf, cellsRead, readBorder, anyFrom, codesOf, borderBytes, writeTests, writeBorder}
 use Rattle.border.proofs.Digits.{length-digits}
 use Rattle.border.proofs.Bits.{length-packed, packed-padded, unpacked-packed, packed-unpacked}
 use Rattle.border.proofs.Walks.{walks-agree, walked-first, walked-length, walked-cells, codes-below}
@@ -203,7 +203,7 @@ pub record Writes (k : ℕ) (cs : List ℕ) (room : ℕ) (codes : List ℕ) : Ty
 
 pub writes-accepted : (k : ℕ) (cs out : List ℕ) (n : ℕ) → writeBorder k cs out .0 ≡ given n → (codes : List ℕ) × Writes k cs (length out) codes
 writes-accepted k cs out n e =
-    let p = passed (writeTests k cs (length out)) (length (bytesOf k cs)) n (sym e) .0 in
+    let p = passed (writeTests k cs (length out)) (length (borderBytes k cs)) n (sym e) .0 in
     let w = is-found (codesOf k cs) (p .1 .1 .1 .1 .0) in (
       w .0,
       record {
@@ -215,7 +215,7 @@ writes-accepted k cs out n e =
         fits =
             omega (
               arith,
-              ltb-false (length out) (length (bytesOf k cs)) (p .1 .1 .1 .1 .1 .0),
+              ltb-false (length out) (length (borderBytes k cs)) (p .1 .1 .1 .1 .1 .0),
               ap (λ (o : Option (List ℕ)). length (stored k (getD cs 0 0) (foundOr [] o))) (w .1),
             );
       },
@@ -228,18 +228,18 @@ pub writes-given : (k : ℕ) (cs out codes : List ℕ) → Writes k cs (length o
     let b = stored k (getD cs 0 0) codes in
     writeBorder k cs out ≡ (given (length b), b ++ drop (length b) out)
 writes-given k cs out codes w =
-    let e : bytesOf k cs ≡ stored k (getD cs 0 0) codes = ap (λ (o : Option (List ℕ)). stored k (getD cs 0 0) (foundOr [] o)) (w .joined) in
+    let e : borderBytes k cs ≡ stored k (getD cs 0 0) codes = ap (λ (o : Option (List ℕ)). stored k (getD cs 0 0) (foundOr [] o)) (w .joined) in
     let all : Passed (writeTests k cs (length out)) = (
       le-ltb maxLevel k (w .low),
       (
         ne-eqb (length cs) 0 (λ z. omega (arith, w .some-cells)),
         (
           le-ltb maxCodes (length cs - 1) (w .few),
-          (w .below, (ap missing (w .joined), (le-ltb (length out) (length (bytesOf k cs)) (rw (ap length e) (w .fits)), tt))),
+          (w .below, (ap missing (w .joined), (le-ltb (length out) (length (borderBytes k cs)) (rw (ap length e) (w .fits)), tt))),
         ),
       ),
     ) in
-    sym (lent-given _ out (bytesOf k cs ++ drop (length (bytesOf k cs)) out) _ (gives (writeTests k cs (length out)) (length (bytesOf k cs)) all))
+    sym (lent-given _ out (borderBytes k cs ++ drop (length (borderBytes k cs)) out) _ (gives (writeTests k cs (length out)) (length (borderBytes k cs)) all))
     ∙ ap (λ (b : List ℕ). (given (length b), b ++ drop (length b) out)) e
 
 -- the first cell is one of the level
@@ -300,6 +300,27 @@ module _ (k start : ℕ) (codes : List ℕ) (h : k ≤ maxLevel) (l : start < ce
   unfolding place
   stored-whole = omega (arith, length-stored k start codes)
 
+-- what is written begins with a cell of the level, and has no more codes than a border may have
+written-bounds : (k : ℕ) (cs : List ℕ) (room : ℕ) (codes : List ℕ) → Writes k cs room codes → (getD cs 0 0 < cells k) × (length codes ≤ maxCodes)
+written-bounds k cs room codes w =
+    let m = getD cs 0 0 in
+    let ns = drop 1 cs in
+    let split : cs ≡ m ∷ ns = drop-cons cs 0 0 (w .some-cells) in
+    let counted = walked-length k m codes (m ∷ ns) (walks-agree k m codes ns .1 (w .joined)) in
+    (first-below (cells k) m ns (subst (λ (s : List ℕ). anyFrom (cells k) s ≡ false) split (w .below)), omega (arith, ap length split, w .few))
+
+-- the length that is answered is that of the bytes
+answered : (k : ℕ) (cs out : List ℕ) (n : ℕ) (codes : List ℕ) → Writes k cs (length out) codes → writeBorder k cs out .0 ≡ given n →
+    n ≡ length (stored k (getD cs 0 0) codes)
+answered k cs out n codes w e = sym (given-same (sym (ap (λ (p : Answer ℕ × List ℕ). p .0) (writes-given k cs out codes w)) ∙ e))
+
+pub written-length : (k : ℕ) (cs out : List ℕ) (n : ℕ) → writeBorder k cs out .0 ≡ given n → n ≤ 1544
+written-length k cs out n e =
+    let a = writes-accepted k cs out n e in
+    let w = a .1 in
+    let b = written-bounds k cs (length out) (a .0) w in
+    omega (arith, answered k cs out n (a .0) w e, stored-length k (getD cs 0 0) (a .0) (w .low) (b .0) (b .1))
+
 -- what the writer writes, the reader reads as the same level and cells
 pub read-written : (k : ℕ) (cs out lent : List ℕ) (n : ℕ) → writeBorder k cs out .0 ≡ given n → length cs ≤ length lent →
     readBorder (take n (writeBorder k cs out .1)) lent ≡ (given (k, length cs), cs ++ drop (length cs) lent)
@@ -312,13 +333,12 @@ read-written k cs out lent n e l =
     let b = stored k m codes in
     let g = writes-given k cs out codes w in
     let split : cs ≡ m ∷ ns = drop-cons cs 0 0 (w .some-cells) in
-    let length-b : n ≡ length b = sym (given-same (sym (ap (λ (p : Answer ℕ × List ℕ). p .0) g) ∙ e)) in
     let bytes : take n (writeBorder k cs out .1) ≡ b =
-    ap₂ (λ (i : ℕ) (o : List ℕ). take i o) length-b (ap (λ (p : Answer ℕ × List ℕ). p .1) g) ∙ take-append-seam b (drop (length b) out) in
+    ap₂ (λ (i : ℕ) (o : List ℕ). take i o) (answered k cs out n codes w e) (ap (λ (p : Answer ℕ × List ℕ). p .1) g) ∙ take-append-seam b (drop (length b) out) in
     let walk = walks-agree k m codes ns .1 (w .joined) in
     let counted = walked-length k m codes (m ∷ ns) walk in
-    let below = first-below (cells k) m ns (subst (λ (s : List ℕ). anyFrom (cells k) s ≡ false) split (w .below)) in
-    let few : length codes ≤ maxCodes = omega (arith, ap length split, w .few) in
+    let below = written-bounds k cs (length out) codes w .0 in
+    let few = written-bounds k cs (length out) codes w .1 in
     let eight = codes-below k m ns codes (w .joined) in
     let rest = stored-codes k m codes (w .low) below few in
     let r : Reads b (length lent) =

@@ -97,8 +97,8 @@ abbrev pub codesOf : ℕ → List ℕ → Option (List ℕ)
 codesOf k cs = codesBetween k (getD cs 0 0) (drop 1 cs)
 
 -- the bytes written
-abbrev pub bytesOf : ℕ → List ℕ → List ℕ
-bytesOf k cs = stored k (getD cs 0 0) (foundOr [] (codesOf k cs))
+abbrev pub borderBytes : ℕ → List ℕ → List ℕ
+borderBytes k cs = stored k (getD cs 0 0) (foundOr [] (codesOf k cs))
 
 -- "Border writer: 1, 5 (no cells), 9, 4, 7, 5 (room)"
 abbrev pub writeTests : ℕ → List ℕ → ℕ → List Test
@@ -108,11 +108,11 @@ writeTests k cs room =
     ∷ badCount (length cs - 1)
     ∷ (4 when anyFrom (cells k) cs)
     ∷ badStep (codesOf k cs)
-    ∷ (5 when ltb room (length (bytesOf k cs))) ∷ []
+    ∷ (5 when ltb room (length (borderBytes k cs))) ∷ []
 
 -- the writer fills the front of a byte slice, leaves its rest, and answers the length
 abbrev pub writeBorder : ℕ → List ℕ → List ℕ → Answer ℕ × List ℕ
 writeBorder k cs out =
     lending
-    (inOrder (writeTests k cs (length out)) (length (bytesOf k cs))) out
-    (bytesOf k cs ++ drop (length (bytesOf k cs)) out)
+    (inOrder (writeTests k cs (length out)) (length (borderBytes k cs))) out
+    (borderBytes k cs ++ drop (length (borderBytes k cs)) out)

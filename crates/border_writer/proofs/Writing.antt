@@ -17,7 +17,7 @@ use Rattle.cell.specs.Cell.{cells, maxLevel}
 use Rattle.varint.specs.Varint.{numeral, writeCall}
 use Rattle.step.specs.Step.{codeCall}
 use Rattle.border.specs.Stored.{valueOf, codeBytes, packed, stored, before, onward, codesBetween}
-use Rattle.border.specs.Border.{maxCodes, anyFrom, codesOf, bytesOf, writeTests, writeBorder}
+use Rattle.border.specs.Border.{maxCodes, anyFrom, codesOf, borderBytes, writeTests, writeBorder}
 use Rattle.border_writer.specs.inside.Parts.{writeOn}
 use Rattle.border.proofs.Digits.{length-digits}
 use Rattle.border.proofs.Lists.{onto, onto-none, onto-before}
@@ -138,9 +138,9 @@ module _ (k start : ℕ) (codes out : List ℕ) where
 -- ---- the call, test by test
 
 module _ (k : ℕ) (cs out : List ℕ) where
-  leaves : (i : ℕ) → refused i ≡ inOrder (writeTests k cs (length out)) (length (bytesOf k cs)) → (refused i, out) ≡ writeBorder k cs out
+  leaves : (i : ℕ) → refused i ≡ inOrder (writeTests k cs (length out)) (length (borderBytes k cs)) → (refused i, out) ≡ writeBorder k cs out
   leaves i e =
-      lent-refused (inOrder (writeTests k cs (length out)) (length (bytesOf k cs))) out (bytesOf k cs ++ drop (length (bytesOf k cs)) out) i e
+      lent-refused (inOrder (writeTests k cs (length out)) (length (borderBytes k cs))) out (borderBytes k cs ++ drop (length (borderBytes k cs)) out) i e
 
   pub level-high : maxLevel < k → (refused 1, out) ≡ writeBorder k cs out
   level-high h = leaves 1 (rw (lt-ltb maxLevel k h))

@@ -3,15 +3,15 @@ use Prim.Native.Nat.{ℕ, _≤_}
 use mathlib.Core.Path.{_≡_, refl, sym, _∙_}
 use mathlib.Core.Bool.{Bool, true, false, _&&_}
 use mathlib.Core.List.{List, [], _∷_}
-use mathlib.Core.Logic.{inl, inr, ⊎-elim}
+use mathlib.Core.Logic.{inl, inr, ⊎-elim, _↔_}
 use native.Mathlib.Nat.{le-antisymm, le-of-eq, le-trans}
 use native.Mathlib.Omega.{arith}
 use borrow.Author.Tests.{leb-true}
 use lib.Dec.{leb}
-use Rattle.refusal.specs.Answer.{Test, _when_, inOrder, lending}
-use Rattle.refusal.proofs.Answers.{Passed, First, gives, passed, refuses, first}
+use Rattle.refusal.specs.Answer.{given, Test, _when_, inOrder, lending, First}
+use Rattle.refusal.proofs.Answers.{Passed, gives, passed, refuses, first}
 use Rattle.refusal.proofs.Tests.{clash, parts}
-use Rattle.demands.specs.Demand1.{Applies, Lowest, ByTests, LentByTests, Demand1}
+use Rattle.demands.specs.Demand1.{Applies, Lowest, ByTests, LentByTests, InOrder, Demand1}
 
 -- the numbers of a list of tests rise from m on
 rises : ℕ → List Test → Bool
@@ -70,6 +70,9 @@ passed-none [] p n a = a
 passed-none ((m when b) ∷ ts) p n (inl a) = clash (a .1) (p .0)
 passed-none ((m when b) ∷ ts) p n (inr a) = passed-none ts (p .1) n a
 
+given-exactly : {A : Type 0} (ts : List Test) (a : A) → (inOrder ts a ≡ given a) ↔ ((n : ℕ) → Applies n ts → ⊥)
+given-exactly ts a = ((λ e. passed-none ts (passed ts a a (sym e) .0)), (λ f. sym (gives ts a (none-passed ts f))))
+
 -- so a call by tests whose numbers rise answers by them
 by-tests : {A : Type 0} (ts : List Test) (a : A) → rises 0 ts ≡ true → ByTests ts (inOrder ts a) a
 by-tests ts a r = record {
@@ -77,16 +80,21 @@ by-tests ts a r = record {
     (λ e. first-lowest 0 ts r n (first ts a n (sym e))),
     (λ l. sym (refuses ts a n (lowest-first 0 ts r n l))),
   );
-  gives = (
-    (λ e. passed-none ts (passed ts a a (sym e) .0)),
-    (λ f. sym (gives ts a (none-passed ts f))),
-  );
+  gives = given-exactly ts a;
 }
 
 lent-by-tests : {A S : Type 0} (ts : List Test) (a : A) (before after : S) → rises 0 ts ≡ true →
     LentByTests ts (lending (inOrder ts a) before after) a before after
 lent-by-tests ts a before after r = record {
   answers = by-tests ts a r;
+  leaves = λ n e. rw e;
+  writes = λ e. rw e;
+}
+
+in-order : {A S : Type 0} (ts : List Test) (a : A) (before after : S) → InOrder ts (lending (inOrder ts a) before after) a before after
+in-order ts a before after = record {
+  refuses = λ n. ((λ e. first ts a n (sym e)), (λ f. sym (refuses ts a n f)));
+  gives = given-exactly ts a;
   leaves = λ n e. rw e;
   writes = λ e. rw e;
 }
@@ -111,4 +119,6 @@ demand-1 = record {
   fill = λ k a o out. lent-by-tests _ _ _ _ refl;
   reading-of = λ k temps ages c. by-tests _ _ refl;
   day = λ k d new clouds temps ages. lent-by-tests _ _ _ _ refl;
+  read-border = λ bs out. in-order _ _ _ _;
+  write-border = λ k cs out. in-order _ _ _ _;
 }

@@ -24,7 +24,9 @@ use Rattle.step.proofs.Calls.{calls-agree, code-once, call-back, three-neighbou
 use Rattle.touch.proofs.Laws.{touching-6, touching-10, touching-12, cells-at-4, cells-at-6}
 use Rattle.touch.proofs.Indirect.{direct-3, indirect-3, indirect-7}
 use Rattle.fill.proofs.Laws.{fill-exactly, border-filled, outside-not-filled}
+use Rattle.border.proofs.Laws.{read-written, write-read, same-border, written-length}
 use Rattle.demands.specs.Demand2.{Demand2}
+use Rattle.demands.proofs.Borders.{one-cell}
 use Rattle.demands.proofs.Charts.{day-fresh, day-carried, day-count, day-coldest, day-warmest, day-none}
 use Rattle.demands.proofs.Codes.{inside-octant, T-leads, E-leads, W-leads, direct-step}
 use Rattle.demands.proofs.Touching.{touch-point, touch-mutual, neighbours-touch, listing, touch-list}
@@ -143,4 +145,9 @@ demand-2 = record {
   day-coldest = day-coldest;
   day-warmest = day-warmest;
   day-none = day-none;
+  border-read = read-written;
+  border-written = write-read;
+  one-border = same-border;
+  one-cell = one-cell;
+  border-length = written-length;
 }

@@ -1,5 +1,6 @@
 pub mod Demand1
 pub mod Charts
+pub mod Borders
 pub mod Codes
 pub mod Touching
 pub mod Demand2

@@ -1,18 +1,21 @@
 -- Demand 1: what is refused, and how (document 01, "Refused calls").
-use Prim.Native.Nat.{ℕ, _≤_, _^_}
+use Prim.Native.Nat.{ℕ, _+_, _-_, _≤_, _^_}
 use mathlib.Core.Path.{_≡_}
 use mathlib.Core.Bool.{true}
-use mathlib.Core.List.{List, [], _∷_}
+use mathlib.Core.List.{List, [], _∷_, _++_}
 use mathlib.Core.Logic.{_⊎_, _↔_}
+use lib.Dec.{leb, ltb, eqb}
 use lib.IntN.{ℤ}
-use lib.ListN.{length, replicate}
+use lib.ListN.{length, drop, replicate}
 use lib.Ieee.{Float}
-use Rattle.refusal.specs.Answer.{Answer, given, refused, Test, _when_, done}
+use Rattle.refusal.specs.Answer.{Answer, given, refused, Test, _when_, First, done}
 use Rattle.refusal.specs.Tests.{badLevel, badLength}
 use Rattle.bitset.specs.Bits.{marked, bytesOf, size, outside}
 use Rattle.cell.specs.Cell.{Place, place, number, cells, maxLevel, badCell, badPlace, placeCall, numberCall}
 use Rattle.position.specs.Position.{placeAt, badLatitude, badLongitude, cellCall, centre, centreCall}
 use Rattle.step.specs.Step.{step, foundOr, codeTo, badStep, stepCall, codeCall}
+use Rattle.border.specs.Stored.{valueOf, codeBytes}
+use Rattle.border.specs.Border.{badCount, badNumber, levelRead, startRead, countRead, header, cellsOf, readBorder, anyFrom, codesOf, borderBytes, writeBorder}
 use Rattle.corner.specs.Corner.{touches, touchCall}
 use Rattle.touch.specs.Touch.{touching, padded, listCall}
 use Rattle.mask.specs.Mask.{maxMaskLevel, maskCall, countCall, union, joinCall, difference, lowest, withinCall}
@@ -44,6 +47,13 @@ pub record LentByTests {A S : Type 0} (ts : List Test) (result : Answer A × S) 
   -- a refused one leaves every lent slice as it was
   pub leaves : (n : ℕ) → result .0 ≡ refused n → result .1 ≡ before
   -- one that is not refused writes them
+  pub writes : result .0 ≡ given value → result .1 ≡ after
+
+-- where the paper gives another order: it is refused by the first of its tests that applies, and gives its value exactly when none does
+pub record InOrder {A S : Type 0} (ts : List Test) (result : Answer A × S) (value : A) (before after : S) : Type 0 where
+  pub refuses : (n : ℕ) → (result .0 ≡ refused n) ↔ First n ts
+  pub gives : (result .0 ≡ given value) ↔ ((n : ℕ) → Applies n ts → ⊥)
+  pub leaves : (n : ℕ) → result .0 ≡ refused n → result .1 ≡ before
   pub writes : result .0 ≡ given value → result .1 ≡ after
 
 -- Demand 1, call by call: the tests, each under its number, are those that document 01's table gives the call
@@ -108,3 +118,26 @@ pub record Demand1 : Type 0 where
       ∷ badDays d ∷ [])
       (dayCall k d new clouds temps ages) (summaryAfter (cells k) d new clouds temps ages) (temps, ages)
       (temperaturesAfter (cells k) d new clouds temps ages, agesAfter (cells k) d new clouds temps ages)
+  -- the border reader: for level, start and count in turn the number (10, 11) and then its bound (1, 4, 9); then 10, 12, 5, 7
+  pub read-border : (bs out : List ℕ) →
+      let (k, start, n, at) = header bs in
+      let found = foundOr [] (cellsOf bs (header bs)) in
+      InOrder
+      (badNumber (levelRead bs) ∷ badLevel maxLevel k
+      ∷ badNumber (startRead bs) ∷ badCell k start
+      ∷ badNumber (countRead bs) ∷ badCount n
+      ∷ (10 when ltb (length bs) (at + codeBytes n))
+      ∷ (12 when ltb (at + codeBytes n) (length bs)) ∷ (12 when leb (8 ^ n) (valueOf 256 (drop at bs)))
+      ∷ (5 when leb (length out) n)
+      ∷ badStep (cellsOf bs (header bs)) ∷ [])
+      (readBorder bs out) (k, length found) out (found ++ drop (length found) out)
+  -- the border writer: 1, 5 (no cells), 9, 4, 7, 5 (room)
+  pub write-border : (k : ℕ) (cs out : List ℕ) →
+      InOrder
+      (badLevel maxLevel k
+      ∷ (5 when eqb (length cs) 0)
+      ∷ badCount (length cs - 1)
+      ∷ (4 when anyFrom (cells k) cs)
+      ∷ badStep (codesOf k cs)
+      ∷ (5 when ltb (length out) (length (borderBytes k cs))) ∷ [])
+      (writeBorder k cs out) (length (borderBytes k cs)) out (borderBytes k cs ++ drop (length (borderBytes k cs)) out)

@@ -1,19 +1,21 @@
--- Demand 2: cells and their numbers, positions, centres, steps, touching, filling, and what a day leaves and answers are as document 01 says, by the
--- calls' answers.
+-- Demand 2: cells and their numbers, positions, centres, steps, touching, filling, what a day leaves and answers, and stored borders are as document 01
+-- says, by the calls' answers.
 use Prim.Native.Nat.{ℕ, suc, _+_, _*_, _-_, _/_, _^_, _≤_, _<_}
 use mathlib.Core.Path.{_≡_}
 use mathlib.Core.Bool.{Bool, true, false}
 use mathlib.Core.List.{List, [], _∷_, _++_, map}
 use mathlib.Core.Logic.{_⊎_, _↔_}
 use lib.IntN.{ℤ, pos, natAbs, negℤ, _+ℤ_}
-use lib.ListN.{length, replicate}
+use lib.ListN.{length, take, drop, replicate}
 use lib.Ieee.{Float}
 use Rattle.refusal.specs.Answer.{Answer, given, refused, done}
-use Rattle.bitset.specs.Bits.{marked, size}
+use Rattle.bitset.specs.Bits.{Bytes, marked, size}
 use Rattle.cell.specs.Cell.{Frame, up, down, child, Place, place, Occurs, cells, maxLevel, placeCall, numberCall}
 use Rattle.position.specs.Position.{q, latitudeOut, longitudeOut, beginning, northOctant, offset, octant, Holds, cellCall, centreCall}
 use Rattle.step.specs.Step.{across, east, west, stepCall, codeCall}
 use Rattle.step.specs.Neighbours.{back, direct, isDirect, Neighbours}
+use Rattle.varint.specs.Varint.{numeral}
+use Rattle.border.specs.Border.{readBorder, borderBytes, writeBorder}
 use Rattle.corner.specs.Corner.{Point, norm, corners, touchCall}
 use Rattle.touch.specs.Touch.{rising, indirect, CornerCell, cellsAt, Tip, unused, listCall}
 use Rattle.fill.specs.Fill.{Reachable, fillCall}
@@ -186,3 +188,17 @@ pub record Demand2 : Type 0 where
   -- where it is 0 they are 0.0 twice
   pub day-none : (k d : ℕ) (new : List Float) (clouds : List ℕ) (temps : List Float) (ages : List ℕ) (s : Summary) →
       dayCall k d new clouds temps ages .0 ≡ given s → s .0 ≡ 0 → (s .1 ≡ nought) × (s .2 ≡ nought)
+  -- a border stored and read is the same border: what the writer writes, the reader reads as the same level and cells
+  pub border-read : (k : ℕ) (cs out lent : List ℕ) (n : ℕ) → writeBorder k cs out .0 ≡ given n → length cs ≤ length lent →
+      readBorder (take n (writeBorder k cs out .1)) lent ≡ (given (k, length cs), cs ++ drop (length cs) lent)
+  -- accepted bytes are those the writer writes for what was read
+  pub border-written : (bs out lent : List ℕ) (k n : ℕ) → Bytes bs → readBorder bs out .0 ≡ given (k, n) → length bs ≤ length lent →
+      writeBorder k (take n (readBorder bs out .1)) lent ≡ (given (length bs), bs ++ drop (length bs) lent)
+  -- so two different byte strings never read as one border
+  pub one-border : (bs bs′ out out′ : List ℕ) (k n : ℕ) → Bytes bs → Bytes bs′ →
+      readBorder bs out .0 ≡ given (k, n) → readBorder bs′ out′ .0 ≡ given (k, n) → take n (readBorder bs out .1) ≡ take n (readBorder bs′ out′ .1) →
+      bs ≡ bs′
+  -- a border of one cell has no codes: its bytes are level, cell and 0
+  pub one-cell : (k m : ℕ) → borderBytes k (m ∷ []) ≡ numeral k ++ (numeral m ++ (0 ∷ []))
+  -- a border has at most 1,544 bytes
+  pub border-length : (k : ℕ) (cs out : List ℕ) (n : ℕ) → writeBorder k cs out .0 ≡ given n → n ≤ 1544

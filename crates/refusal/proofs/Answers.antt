@@ -4,11 +4,11 @@ use Prim.Native.Nat.{ℕ}
 use mathlib.Core.Path.{_≡_, refl, sym, ap}
 use mathlib.Core.Bool.{true, false}
 use mathlib.Core.List.{List, [], _∷_, _++_}
-use mathlib.Core.Logic.{_⊎_, inl, inr}
+use mathlib.Core.Logic.{inl, inr}
 use native.Mathlib.Omega.{arith}
 use borrow.Author.Tests.{eq-eqb, ne-eqb}
 use lib.ListN.{length}
-use Rattle.refusal.specs.Answer.{Answer, given, refused, Test, _when_, inOrder, lending}
+use Rattle.refusal.specs.Answer.{Answer, given, refused, Test, _when_, inOrder, lending, First}
 use Rattle.refusal.specs.Tests.{badLength}
 use Rattle.refusal.proofs.Tests.{clash}
 
@@ -29,11 +29,6 @@ refused-same e = cc
 abbrev pub Passed : List Test → Type 0
 Passed [] = Unit {0}
 Passed ((n when b) ∷ ts) = (b ≡ false) × Passed ts
-
--- n is the number of the first test of a list that applies
-abbrev pub First : ℕ → List Test → Type 0
-First n [] = ⊥
-First n ((m when b) ∷ ts) = ((b ≡ true) × (n ≡ m)) ⊎ ((b ≡ false) × First n ts)
 
 -- where no test applies, the call gives its value
 pub gives : {A : Type 0} (ts : List Test) (a : A) → Passed ts → given a ≡ inOrder ts a

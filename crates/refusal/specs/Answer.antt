@@ -2,6 +2,8 @@
 use Prim.Native.Nat.{ℕ}
 use mathlib.Core.Bool.{Bool, true, false}
 use mathlib.Core.List.{List, [], _∷_}
+use mathlib.Core.Logic.{_⊎_}
+use mathlib.Core.Path.{_≡_}
 
 -- a value, or a refusal by the paper's number
 pub data Answer (A : Type 0) : Type 0 where
@@ -35,3 +37,8 @@ lending answer before after = (answer, leaving answer before after)
 -- the value of a call that has none to give beyond its work
 abbrev pub done : Unit {0}
 done = tt
+
+-- n is the number of the first test of a list that applies
+abbrev pub First : ℕ → List Test → Type 0
+First n [] = ⊥
+First n ((m when b) ∷ ts) = ((b ≡ true) × (n ≡ m)) ⊎ ((b ≡ false) × First n ts)
