@@ -165,12 +165,13 @@ fn show_rules(level: u32) {
 
 fn show_rule(level: u32, code: u8) {
     let tally = run_rule(level, code);
-    print::labelled(b"source 000: level ", level);
-    print::text(b" digit rule of ");
+    print::one(b"source 000: level % digit rule of ", level);
     steps::print_code(code);
-    print::labelled(b": ", tally.agree);
-    print::labelled(b" cells agree, ", tally.disagree);
-    print::text(b" disagree\n");
+    print::two(
+        b": % cells agree, % disagree\n",
+        tally.agree,
+        tally.disagree,
+    );
 }
 
 // Differences of cell numbers: their sum and how many they are.
@@ -210,12 +211,14 @@ fn show_average(level: u32) {
     let all = differences_at(level);
     let sum = all.sum;
     let count = all.count;
-    print::labelled(b"source 003: level ", level);
-    print::labelled(b" neighbours in octant 0 differ by ", sum);
-    print::labelled(b" over ", count);
-    print::text(b" steps");
+    print::three(
+        b"source 003: level % neighbours in octant 0 differ by % over % steps",
+        level,
+        sum,
+        count,
+    );
     if count != 0 {
-        print::labelled(b", on average ", sum / count);
+        print::one(b", on average %", sum / count);
     }
-    print::text(b"\n");
+    print::byte(b'\n');
 }

@@ -13,44 +13,40 @@ use position::Latitude;
 use position::Longitude;
 
 pub fn show() {
-    show_bytes();
-    show_row();
-    show_source_000();
+    show_bytes(&[0], &[2], &[26]);
+    show_filled(0, &[0, 0], 0);
+    show_filled(0, &[1], 0);
+    show_row(&mut [0u8; 64], &mut [0u8; 64]);
+    show_source_000(&mut [0u8; 65536], &mut [0u8; 65536]);
 }
 
 // Mask 26 marks the three direct neighbours of cell 0, so that nothing else is reached from it.
-fn show_bytes() {
-    show_filled(0, &[0], 0);
-    show_filled(0, &[2], 0);
-    show_filled(0, &[26], 0);
-    show_filled(9, &[0], 0);
-    show_filled(0, &[0], 8);
-    show_filled(0, &[0, 0], 0);
-    show_filled(0, &[1], 0);
+fn show_bytes(none: &[u8], one: &[u8], three: &[u8]) {
+    show_filled(0, none, 0);
+    show_filled(0, one, 0);
+    show_filled(0, three, 0);
+    show_filled(9, none, 0);
+    show_filled(0, none, 8);
 }
 
 fn show_filled(level: u32, border: &[u8], outside: u32) {
     let mut out = [0u8; 1];
-    masks::print_level(level);
-    masks::print_mask(b"mask", border);
-    print::labelled(b" filled from cell ", outside);
+    masks::print_mask(level, border);
+    print::one(b" filled from cell %", outside);
     match fill::fill(level, border, outside, &mut out) {
-        FillAnswer::Filled => masks::print_mask(b":", &out),
+        FillAnswer::Filled => masks::print_out(&out),
         FillAnswer::Refused(n) => masks::print_refused(n),
     }
-    print::text(b"\n");
 }
 
 // The up cells of a row meet in points alone, which no direct step passes: they close the row without its down cells.
-fn show_row() {
-    let mut border = [0u8; 64];
-    let mut out = [0u8; 64];
-    mark_row(Kind::Up, &mut border);
+fn show_row(border: &mut [u8], out: &mut [u8]) {
+    mark_row(Kind::Up, border);
     print::text(b"northern row 5, up cells: ");
-    show_from_latitude(3, Latitude(-90_000_000), &border, &mut out);
-    mark_row(Kind::Down, &mut border);
+    show_from_latitude(3, Latitude(-90_000_000), border, out);
+    mark_row(Kind::Down, border);
     print::text(b"northern row 5, all cells: ");
-    show_from_latitude(3, Latitude(-90_000_000), &border, &mut out);
+    show_from_latitude(3, Latitude(-90_000_000), border, out);
 }
 
 // The cells of one kind in row 5 of the octants 0 to 3.
@@ -82,16 +78,17 @@ fn mark_place(octant: u32, kind: Kind, col: u32, mask: &mut [u8]) {
 }
 
 // From a cell outside the border, and from one in each of the two parts that it encloses.
-fn show_source_000() {
-    let mut border = [0u8; 65536];
-    let mut out = [0u8; 65536];
-    mark_border(&steps::BORDER, &mut border);
+fn show_source_000(border: &mut [u8], out: &mut [u8]) {
+    mark_border(&steps::BORDER, border);
     print::text(b"source 000 table 1 (b): ");
-    show_from_latitude(8, Latitude(0), &border, &mut out);
+    show_from_latitude(8, Latitude(0), border, out);
+    show_part(b"210303200", border, out);
+    show_part(b"210313203", border, out);
+}
+
+fn show_part(address: &[u8], border: &[u8], out: &mut [u8]) {
     print::text(b"source 000 table 1 (b): ");
-    show_region(8, address::read(b"210303200"), &border, &mut out);
-    print::text(b"source 000 table 1 (b): ");
-    show_region(8, address::read(b"210313203"), &border, &mut out);
+    show_region(8, address::read(address), border, out);
 }
 
 fn mark_border(border: &[u8], mask: &mut [u8]) {
@@ -111,22 +108,23 @@ fn show_from_latitude(level: u32, latitude: Latitude, border: &[u8], out: &mut [
 }
 
 fn show_region(level: u32, outside: u32, border: &[u8], out: &mut [u8]) {
-    masks::print_level(level);
-    print::text(b"border of ");
+    print::one(b"level % border of ", level);
     print_size(level, border);
-    print::labelled(b" filled from cell ", outside);
-    print::text(b": ");
+    print::one(b" filled from cell %: ", outside);
     match fill::fill(level, border, outside, out) {
-        FillAnswer::Filled => print_size(level, out),
+        FillAnswer::Filled => print_filled(level, out),
         FillAnswer::Refused(n) => print::refused(n),
     }
-    print::text(b"\n");
+}
+
+fn print_filled(level: u32, mask: &[u8]) {
+    print_size(level, mask);
+    print::byte(b'\n');
 }
 
 fn print_size(level: u32, mask: &[u8]) {
     match mask::count(level, mask) {
-        CountAnswer::Count(cells) => print::number(cells),
+        CountAnswer::Count(cells) => print::one(b"% cells", cells),
         CountAnswer::Refused(n) => print::refused(n),
     }
-    print::text(b" cells");
 }

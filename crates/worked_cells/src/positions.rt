@@ -70,15 +70,7 @@ const LONGITUDES: [i32; 28] = [
 ];
 
 pub fn show() {
-    show_cell(1, Latitude(22_500_000), Longitude(30_000_000));
-    show_cell(1, Latitude(22_500_000), Longitude(29_999_999));
-    show_cell(1, Latitude(45_000_000), Longitude(0));
-    show_cell(1, Latitude(44_999_999), Longitude(0));
-    show_cell(14, Latitude(-1), Longitude(0));
-    show_cell(1, Latitude(90_000_000), Longitude(-180_000_000));
-    show_cell(1, Latitude(90_000_001), Longitude(180_000_000));
-    show_cell(1, Latitude(0), Longitude(180_000_000));
-    show_cell(15, Latitude(0), Longitude(0));
+    show_cells();
     show_centre(0, 7);
     show_centre(1, 2);
     show_centre(15, 0);
@@ -86,6 +78,23 @@ pub fn show() {
     show_source_000();
     print::text(b"source 003: ");
     show_cell(13, Latitude(42_730_000), Longitude(-73_690_000));
+}
+
+fn show_cells() {
+    show_cell(1, Latitude(22_500_000), Longitude(30_000_000));
+    show_cell(1, Latitude(22_500_000), Longitude(29_999_999));
+    show_cell(1, Latitude(45_000_000), Longitude(0));
+    show_cell(1, Latitude(44_999_999), Longitude(0));
+    show_cell(14, Latitude(-1), Longitude(0));
+    show_outer();
+    show_cell(15, Latitude(0), Longitude(0));
+}
+
+// The ends of the ranges.
+fn show_outer() {
+    show_cell(1, Latitude(90_000_000), Longitude(-180_000_000));
+    show_cell(1, Latitude(90_000_001), Longitude(180_000_000));
+    show_cell(1, Latitude(0), Longitude(180_000_000));
 }
 
 fn print_position(latitude: Latitude, longitude: Longitude) {
@@ -96,31 +105,34 @@ fn print_position(latitude: Latitude, longitude: Longitude) {
 }
 
 fn show_cell(level: u32, latitude: Latitude, longitude: Longitude) {
-    print::labelled(b"level ", level);
-    print::text(b" ");
+    print::one(b"level % ", level);
     print_position(latitude, longitude);
+    print_cell(level, position::cell_at(level, latitude, longitude));
+}
+
+fn print_cell(level: u32, answer: CellAnswer) {
     print::text(b": ");
-    match position::cell_at(level, latitude, longitude) {
-        CellAnswer::Number(cell) => {
-            print::labelled(b"cell ", cell);
-            print::text(b" (");
-            address::print(level, cell);
-            print::text(b")");
-        }
+    match answer {
+        CellAnswer::Number(cell) => print_number(level, cell),
         CellAnswer::Refused(n) => print::refused(n),
     }
-    print::text(b"\n");
+}
+
+fn print_number(level: u32, cell: u32) {
+    print::one(b"cell % (", cell);
+    address::print(level, cell);
+    print::text(b")\n");
 }
 
 fn show_centre(level: u32, cell: u32) {
-    print::labelled(b"level ", level);
-    print::labelled(b" centre of cell ", cell);
-    print::text(b": ");
+    print::two(b"level % centre of cell %: ", level, cell);
     match position::centre_of(level, cell) {
-        CentreAnswer::At(latitude, longitude) => print_position(latitude, longitude),
+        CentreAnswer::At(latitude, longitude) => {
+            print_position(latitude, longitude);
+            print::byte(b'\n');
+        }
         CentreAnswer::Refused(n) => print::refused(n),
     }
-    print::text(b"\n");
 }
 
 fn show_source_000() {

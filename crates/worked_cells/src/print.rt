@@ -7,14 +7,46 @@ pub fn number(n: u32) {
     io::print_decimal(libc::STDOUT_FILENO, n as u64);
 }
 
+pub fn byte(b: u8) {
+    text(&[b]);
+}
+
 // A word or sign, and the number after it.
 pub fn labelled(label: &[u8], n: u32) {
     text(label);
     number(n);
 }
 
+// Text with numbers in it, one for each '%', in order. A function of many short texts takes long to prove.
+fn numbers(format: &[u8], values: &[u32]) {
+    let mut used: usize = 0;
+    let mut from: usize = 0;
+    for i in 0..format.len() {
+        if format[i] == b'%' && used < values.len() {
+            text(&format[from..i]);
+            number(values[used]);
+            used += 1;
+            from = i + 1;
+        }
+    }
+    text(&format[from..]);
+}
+
+pub fn one(format: &[u8], a: u32) {
+    numbers(format, &[a]);
+}
+
+pub fn two(format: &[u8], a: u32, b: u32) {
+    numbers(format, &[a, b]);
+}
+
+pub fn three(format: &[u8], a: u32, b: u32, c: u32) {
+    numbers(format, &[a, b, c]);
+}
+
+// The end of a line of which the call was refused.
 pub fn refused(n: u8) {
-    labelled(b"refused ", n as u32);
+    one(b"refused %\n", n as u32);
 }
 
 // A number, with a minus sign where it is below zero.

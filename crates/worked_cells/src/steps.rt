@@ -10,34 +10,42 @@ pub const BORDER: [u8; 329] =
     210303321 210303302 210303312 210303003 210303013 210303010 210303011 210303233 210303230 210303231 210303203 \
     210303202 210303221 210303220 210303223 210303232 210313232 210313201 210313200 210313202 210313212 210310103";
 
+// The letters of the codes 0 to 7.
+const LETTERS: [u8; 8] = *b"tlrewTEW";
+
 pub fn show() {
     show_out_of_octant();
     show_inside();
-    show_refused();
+    show_refused_steps();
+    show_refused_codes();
     print::text(b"source 000 table 1 (b):");
     show_border(&BORDER);
-    print::text(b"\n");
+    print::byte(b'\n');
 }
 
 fn show_out_of_octant() {
-    show_joined(b"02323", 5, b"42323");
-    show_joined(b"01313", 6, b"11212");
-    show_joined(b"01212", 7, b"31313");
+    show_joined(address::read(b"02323"), 5, b"42323");
+    show_joined(address::read(b"01313"), 6, b"11212");
+    show_joined(address::read(b"01212"), 7, b"31313");
 }
 
+// From 00000.
 fn show_inside() {
-    show_joined(b"00000", 0, b"00001");
-    show_joined(b"00000", 1, b"00002");
-    show_joined(b"00000", 2, b"00003");
-    show_joined(b"00000", 3, b"00031");
-    show_joined(b"00000", 4, b"00021");
+    show_joined(0, 0, b"00001");
+    show_joined(0, 1, b"00002");
+    show_joined(0, 2, b"00003");
+    show_joined(0, 3, b"00031");
+    show_joined(0, 4, b"00021");
 }
 
-fn show_refused() {
+fn show_refused_steps() {
     show_step(4, 0, 8);
     show_step(4, address::read(b"02220"), 5);
     show_step(15, 0, 0);
     show_step(4, 2048, 0);
+}
+
+fn show_refused_codes() {
     show_code(4, 0, 0);
     show_code(4, 0, 2047);
     show_code(15, 0, 1);
@@ -47,16 +55,10 @@ fn show_refused() {
 
 // The letter of a code; a code that has none is shown as a number.
 pub fn print_code(code: u8) {
-    match code {
-        0 => print::text(b"t"),
-        1 => print::text(b"l"),
-        2 => print::text(b"r"),
-        3 => print::text(b"e"),
-        4 => print::text(b"w"),
-        5 => print::text(b"T"),
-        6 => print::text(b"E"),
-        7 => print::text(b"W"),
-        _ => print::number(code as u32),
+    if code < 8 {
+        print::byte(LETTERS[code as usize]);
+    } else {
+        print::number(code as u32);
     }
 }
 
@@ -67,39 +69,39 @@ fn print_from_to(level: u32, from: u32, to: u32) {
 }
 
 // The step from one cell of level 4 along a code, and the code between it and the cell to which it is to lead.
-fn show_joined(from: &[u8], code: u8, to: &[u8]) {
-    let cell = address::read(from);
-    show_step(4, cell, code);
-    show_code(4, cell, address::read(to));
+fn show_joined(from: u32, code: u8, to: &[u8]) {
+    show_step(4, from, code);
+    show_code(4, from, address::read(to));
 }
 
 fn show_step(level: u32, cell: u32, code: u8) {
-    print::labelled(b"level ", level);
-    print::labelled(b" cell ", cell);
-    print::text(b" step ");
+    print::two(b"level % cell % step ", level, cell);
     print_code(code);
     print::text(b": ");
     match step::step_along(level, cell, code) {
-        StepAnswer::To(next) => print_from_to(level, cell, next),
+        StepAnswer::To(next) => print_step(level, cell, next),
         StepAnswer::Refused(n) => print::refused(n),
     }
-    print::text(b"\n");
+}
+
+fn print_step(level: u32, from: u32, to: u32) {
+    print_from_to(level, from, to);
+    print::byte(b'\n');
 }
 
 fn show_code(level: u32, from: u32, to: u32) {
-    print::labelled(b"level ", level);
-    print::labelled(b" cell ", from);
-    print::labelled(b" to cell ", to);
-    print::text(b": ");
+    print::three(b"level % cell % to cell %: ", level, from, to);
     match step::code_between(level, from, to) {
-        CodeAnswer::Along(code) => {
-            print_from_to(level, from, to);
-            print::text(b" is ");
-            print_code(code);
-        }
+        CodeAnswer::Along(code) => print_joining(level, from, to, code),
         CodeAnswer::Refused(n) => print::refused(n),
     }
-    print::text(b"\n");
+}
+
+fn print_joining(level: u32, from: u32, to: u32, code: u8) {
+    print_from_to(level, from, to);
+    print::text(b" is ");
+    print_code(code);
+    print::byte(b'\n');
 }
 
 // The codes from each address of a border to the next.
@@ -116,7 +118,7 @@ fn show_border(border: &[u8]) {
 }
 
 fn show_joint(from: u32, to: u32) {
-    print::text(b" ");
+    print::byte(b' ');
     match step::code_between(8, from, to) {
         CodeAnswer::Along(code) => print_code(code),
         CodeAnswer::Refused(n) => print::refused(n),

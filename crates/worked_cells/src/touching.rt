@@ -5,43 +5,54 @@ use corner::TouchAnswer;
 use touch::ListAnswer;
 
 pub fn show() {
+    show_tallies();
+    show_lists();
+    show_addresses();
+    show_refused_lists();
+    show_pairs();
+}
+
+fn show_tallies() {
     show_tally(0);
     show_tally(1);
     show_tally(2);
     show_tally(3);
     show_tally(4);
     show_tally(5);
-    show_lists();
-    show_refused_lists();
+}
+
+// Cell 0 of three levels, inside an octant from level 1 on.
+fn show_lists() {
+    show_list(0, 0);
+    show_list(1, 0);
+    show_list(2, 0);
+}
+
+// At level 2 a cell at each pole, and of octant 0 one on the equator, one on the west edge and one on the east edge, these three not at a
+// corner of the octant.
+fn show_addresses() {
+    show_address(b"011");
+    show_address(b"411");
+    show_address(b"023");
+    show_address(b"021");
+    show_address(b"031");
+}
+
+fn show_refused_lists() {
+    show_list(15, 0);
+    show_list(0, 8);
+    show_list(2, 128);
+    show_slice(&mut [0u32; 11]);
+    show_slice(&mut [0u32; 13]);
+}
+
+fn show_pairs() {
     show_pair(1, 0, 0);
     show_pair(1, 0, 1);
     show_pair(1, 0, 31);
     show_pair(15, 0, 1);
     show_pair(1, 32, 0);
     show_pair(1, 0, 32);
-}
-
-// Cell 0 of three levels, inside an octant from level 1 on. Then, at level 2, a cell at each pole, and of octant 0 one on the equator,
-// one on the west edge and one on the east edge, these three not at a corner of the octant.
-fn show_lists() {
-    show_list(0, 0);
-    show_list(1, 0);
-    show_list(2, 0);
-    show_list(2, address::read(b"011"));
-    show_list(2, address::read(b"411"));
-    show_list(2, address::read(b"023"));
-    show_list(2, address::read(b"021"));
-    show_list(2, address::read(b"031"));
-}
-
-fn show_refused_lists() {
-    let mut short = [0u32; 11];
-    let mut long = [0u32; 13];
-    show_list(15, 0);
-    show_list(0, 8);
-    show_list(2, 128);
-    show_list_in(0, 0, &mut short);
-    show_list_in(0, 0, &mut long);
 }
 
 // Cells of a level by how many cells they touch.
@@ -112,12 +123,9 @@ fn tally_at(level: u32) -> Tally {
 
 fn show_tally(level: u32) {
     let tally = tally_at(level);
-    print::labelled(b"level ", level);
-    print::labelled(b": ", tally.six);
-    print::labelled(b" cells touch 6 cells, ", tally.ten);
-    print::labelled(b" touch 10, ", tally.twelve);
-    print::labelled(b" touch 12, ", tally.other);
-    print::text(b" touch any other number\n");
+    print::two(b"level %: % cells touch 6 cells, ", level, tally.six);
+    print::two(b"% touch 10, % touch 12, ", tally.ten, tally.twelve);
+    print::one(b"% touch any other number\n", tally.other);
 }
 
 fn print_list(list: &[u32], count: u32) {
@@ -129,38 +137,42 @@ fn print_list(list: &[u32], count: u32) {
 }
 
 fn show_list(level: u32, cell: u32) {
-    let mut list = [0u32; 12];
-    show_list_in(level, cell, &mut list);
+    print::two(b"level % touching cells of cell %", level, cell);
+    print_touching(level, cell, &mut [0u32; 12]);
 }
 
-// The list in a slice, whose length (below 256) is shown where it is not 12.
-fn show_list_in(level: u32, cell: u32, list: &mut [u32]) {
-    print::labelled(b"level ", level);
-    print::labelled(b" touching cells of cell ", cell);
-    if list.len() != 12 {
-        print::labelled(b" in a slice of ", (list.len() % 256) as u32);
-    }
+fn show_address(address: &[u8]) {
+    show_list(2, address::read(address));
+}
+
+// Cell 0 of level 0, in a slice of another length than 12, below 256.
+fn show_slice(list: &mut [u32]) {
+    print::one(
+        b"level 0 touching cells of cell 0 in a slice of %",
+        (list.len() % 256) as u32,
+    );
+    print_touching(0, 0, list);
+}
+
+fn print_touching(level: u32, cell: u32, list: &mut [u32]) {
     print::text(b": ");
     match touch::touching_cells(level, cell, list) {
-        ListAnswer::Count(count) => {
-            print::number(count);
-            print::text(b" cells,");
-            print_list(list, count);
-        }
+        ListAnswer::Count(count) => print_cells(list, count),
         ListAnswer::Refused(n) => print::refused(n),
     }
-    print::text(b"\n");
+}
+
+fn print_cells(list: &[u32], count: u32) {
+    print::one(b"% cells,", count);
+    print_list(list, count);
+    print::byte(b'\n');
 }
 
 fn show_pair(level: u32, one: u32, other: u32) {
-    print::labelled(b"level ", level);
-    print::labelled(b" cell ", one);
-    print::labelled(b" and cell ", other);
-    print::text(b": ");
+    print::three(b"level % cell % and cell %: ", level, one, other);
     match corner::cells_touch(level, one, other) {
-        TouchAnswer::Touch => print::text(b"touch"),
-        TouchAnswer::NotTouching => print::text(b"apart"),
+        TouchAnswer::Touch => print::text(b"touch\n"),
+        TouchAnswer::NotTouching => print::text(b"apart\n"),
         TouchAnswer::Refused(n) => print::refused(n),
     }
-    print::text(b"\n");
 }

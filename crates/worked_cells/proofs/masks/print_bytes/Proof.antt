@@ -1,17 +1,14 @@
--- `masks::print_mask` is safe and ends. The invariant: `i` is at most the length, and the measure is what is left of it. Assumes nothing.
+-- `masks::print_bytes` is safe and ends. The invariant: `i` is at most the length, and the measure is what is left of it. Assumes nothing.
 use Prim.Native.Nat.{_≤_, _-_}
 use borrow.Author.Needs.{needs}
-use Rattle.worked_cells.proofs.masks.print_mask.Statement.{statement}
-use Rattle.worked_cells.proofs.masks.print_mask.Tie as tie
+use Rattle.worked_cells.proofs.masks.print_bytes.Statement.{statement}
+use Rattle.worked_cells.proofs.masks.print_bytes.Tie as tie
 
 abbrev Inv-loop : tie.InvT-loop
-Inv-loop label bytes i₀ i-end i = i ≤ i-end
+Inv-loop bytes i₀ i-end i = i ≤ i-end
 
 abbrev μ-loop : tie.MeasureT-loop
-μ-loop label bytes i₀ i-end i = i-end - i
-
-text-requires : tie.Need-text-requires Inv-loop μ-loop
-text-requires c κs = search needs
+μ-loop bytes i₀ i-end i = i-end - i
 
 loop-holds : tie.Need-loop-holds Inv-loop μ-loop
 loop-holds c = search needs
@@ -34,13 +31,12 @@ loop-again c = search needs
 returns : tie.Need-returns Inv-loop μ-loop
 returns c = search needs
 
-pub print-mask-spec : {M : Type 1} → statement M
-print-mask-spec =
+pub print-bytes-spec : {M : Type 1} → statement M
+print-bytes-spec =
     tie.close
     (tie.spec
     Inv-loop
     μ-loop
-    text-requires
     loop-holds
     shared-slice-read-print-byte
     print-byte-requires
