@@ -1,10 +1,9 @@
 // Cells and their numbers.
-use crate::address;
-use crate::print;
 use cell::Kind;
 use cell::NumberAnswer;
 use cell::Place;
 use cell::PlaceAnswer;
+use lines::address;
 
 pub fn show() {
     let down = address::read(b"03023");
@@ -37,24 +36,24 @@ fn show_numbers() {
 fn print_place(place: Place) {
     let kind = place.kind;
     match kind {
-        Kind::Up => print::three(b"octant % up(%,%)", place.octant, place.row, place.col),
-        Kind::Down => print::three(b"octant % down(%,%)", place.octant, place.row, place.col),
+        Kind::Up => lines::three(b"octant % up(%,%)", place.octant, place.row, place.col),
+        Kind::Down => lines::three(b"octant % down(%,%)", place.octant, place.row, place.col),
     }
 }
 
 fn show_place(level: u32, cell: u32) {
-    print::two(b"level % cell %: ", level, cell);
+    lines::two(b"level % cell %: ", level, cell);
     match cell::place_of(level, cell) {
         PlaceAnswer::At(place) => print_found(level, cell, place),
-        PlaceAnswer::Refused(n) => print::refused(n),
+        PlaceAnswer::Refused(n) => lines::refused(n),
     }
 }
 
 fn print_found(level: u32, cell: u32, place: Place) {
     address::print(level, cell);
-    print::text(b", ");
+    lines::text(b", ");
     print_place(place);
-    print::byte(b'\n');
+    lines::byte(b'\n');
 }
 
 fn show_number(level: u32, octant: u32, kind: Kind, row: u32, col: u32) {
@@ -64,22 +63,22 @@ fn show_number(level: u32, octant: u32, kind: Kind, row: u32, col: u32) {
         row,
         col,
     };
-    print::one(b"level % ", level);
+    lines::one(b"level % ", level);
     print_place(place);
     print_number(cell::number_of(level, place));
 }
 
 fn print_number(answer: NumberAnswer) {
-    print::text(b": ");
+    lines::text(b": ");
     match answer {
-        NumberAnswer::Number(cell) => print::one(b"cell %\n", cell),
-        NumberAnswer::Refused(n) => print::refused(n),
+        NumberAnswer::Number(cell) => lines::one(b"cell %\n", cell),
+        NumberAnswer::Refused(n) => lines::refused(n),
     }
 }
 
 // Source 003's coordinates of a cell of level 4.
 fn show_source_003(cell: u32) {
-    print::text(b"source 003: ");
+    lines::text(b"source 003: ");
     address::print(4, cell);
     match cell::place_of(4, cell) {
         PlaceAnswer::At(place) => {
@@ -89,7 +88,7 @@ fn show_source_003(cell: u32) {
                 Kind::Down => print_source_003(place.row, place.col, 2),
             }
         }
-        PlaceAnswer::Refused(n) => print::refused(n),
+        PlaceAnswer::Refused(n) => lines::refused(n),
     }
 }
 
@@ -97,5 +96,5 @@ fn show_source_003(cell: u32) {
 fn print_source_003(row: u32, col: u32, s: u32) {
     let y = 3 * (row % 16) + s % 4;
     let x = (2 * (3 * (col % 16) + s % 4) + y) / 3;
-    print::two(b" has X = %, Y = %\n", x, y);
+    lines::two(b" has X = %, Y = %\n", x, y);
 }

@@ -1,5 +1,4 @@
 // The digit rules of source 000 (section 2) and source 003 (section 5), run against the steps, and the average of source 003, section 6.
-use crate::print;
 use crate::steps;
 use step::StepAnswer;
 
@@ -165,9 +164,9 @@ fn show_rules(level: u32) {
 
 fn show_rule(level: u32, code: u8) {
     let tally = run_rule(level, code);
-    print::one(b"source 000: level % digit rule of ", level);
+    lines::one(b"source 000: level % digit rule of ", level);
     steps::print_code(code);
-    print::two(
+    lines::two(
         b": % cells agree, % disagree\n",
         tally.agree,
         tally.disagree,
@@ -211,14 +210,14 @@ fn show_average(level: u32) {
     let all = differences_at(level);
     let sum = all.sum;
     let count = all.count;
-    print::three(
+    lines::three(
         b"source 003: level % neighbours in octant 0 differ by % over % steps",
         level,
         sum,
         count,
     );
     if count != 0 {
-        print::one(b", on average %", sum / count);
+        lines::one(b", on average %", sum / count);
     }
-    print::byte(b'\n');
+    lines::byte(b'\n');
 }

@@ -1,6 +1,5 @@
 // Positions, the cells that hold them, and centres.
-use crate::address;
-use crate::print;
+use lines::address;
 use position::CellAnswer;
 use position::CentreAnswer;
 use position::Latitude;
@@ -76,7 +75,7 @@ pub fn show() {
     show_centre(15, 0);
     show_centre(0, 8);
     show_source_000();
-    print::text(b"source 003: ");
+    lines::text(b"source 003: ");
     show_cell(13, Latitude(42_730_000), Longitude(-73_690_000));
 }
 
@@ -97,41 +96,51 @@ fn show_outer() {
     show_cell(1, Latitude(0), Longitude(180_000_000));
 }
 
+// A number, with a minus sign where it is below zero.
+fn signed(n: i32) {
+    if n < 0 {
+        lines::text(b"-");
+        lines::number((-1 - n) as u32 + 1);
+    } else {
+        lines::number(n as u32);
+    }
+}
+
 fn print_position(latitude: Latitude, longitude: Longitude) {
-    print::text(b"latitude ");
-    print::signed(latitude.0);
-    print::text(b" longitude ");
-    print::signed(longitude.0);
+    lines::text(b"latitude ");
+    signed(latitude.0);
+    lines::text(b" longitude ");
+    signed(longitude.0);
 }
 
 fn show_cell(level: u32, latitude: Latitude, longitude: Longitude) {
-    print::one(b"level % ", level);
+    lines::one(b"level % ", level);
     print_position(latitude, longitude);
     print_cell(level, position::cell_at(level, latitude, longitude));
 }
 
 fn print_cell(level: u32, answer: CellAnswer) {
-    print::text(b": ");
+    lines::text(b": ");
     match answer {
         CellAnswer::Number(cell) => print_number(level, cell),
-        CellAnswer::Refused(n) => print::refused(n),
+        CellAnswer::Refused(n) => lines::refused(n),
     }
 }
 
 fn print_number(level: u32, cell: u32) {
-    print::one(b"cell % (", cell);
+    lines::one(b"cell % (", cell);
     address::print(level, cell);
-    print::text(b")\n");
+    lines::text(b")\n");
 }
 
 fn show_centre(level: u32, cell: u32) {
-    print::two(b"level % centre of cell %: ", level, cell);
+    lines::two(b"level % centre of cell %: ", level, cell);
     match position::centre_of(level, cell) {
         CentreAnswer::At(latitude, longitude) => {
             print_position(latitude, longitude);
-            print::byte(b'\n');
+            lines::byte(b'\n');
         }
-        CentreAnswer::Refused(n) => print::refused(n),
+        CentreAnswer::Refused(n) => lines::refused(n),
     }
 }
 
@@ -142,6 +151,6 @@ fn show_source_000() {
 }
 
 fn show_published(latitude: Latitude, longitude: Longitude) {
-    print::text(b"source 000 table 1 (a): ");
+    lines::text(b"source 000 table 1 (a): ");
     show_cell(8, latitude, longitude);
 }

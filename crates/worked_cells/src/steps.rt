@@ -1,14 +1,7 @@
 // Steps along the eight codes, and the code between two cells.
-use crate::address;
-use crate::print;
+use lines::address;
 use step::CodeAnswer;
 use step::StepAnswer;
-
-// Source 000, table 1 (b): the closed border, as addresses of level 8, nine digits each, with a space between.
-pub const BORDER: [u8; 329] =
-    *b"210310103 210310131 210313210 210313213 210313002 210313012 210313010 210313011 210313322 210303322 210303320 \
-    210303321 210303302 210303312 210303003 210303013 210303010 210303011 210303233 210303230 210303231 210303203 \
-    210303202 210303221 210303220 210303223 210303232 210313232 210313201 210313200 210313202 210313212 210310103";
 
 // The letters of the codes 0 to 7.
 const LETTERS: [u8; 8] = *b"tlrewTEW";
@@ -18,9 +11,9 @@ pub fn show() {
     show_inside();
     show_refused_steps();
     show_refused_codes();
-    print::text(b"source 000 table 1 (b):");
-    show_border(&BORDER);
-    print::byte(b'\n');
+    lines::text(b"source 000 table 1 (b):");
+    show_border(&address::BORDER);
+    lines::byte(b'\n');
 }
 
 fn show_out_of_octant() {
@@ -56,15 +49,15 @@ fn show_refused_codes() {
 // The letter of a code; a code that has none is shown as a number.
 pub fn print_code(code: u8) {
     if code < 8 {
-        print::byte(LETTERS[code as usize]);
+        lines::byte(LETTERS[code as usize]);
     } else {
-        print::number(code as u32);
+        lines::number(code as u32);
     }
 }
 
 fn print_from_to(level: u32, from: u32, to: u32) {
     address::print(level, from);
-    print::text(b" to ");
+    lines::text(b" to ");
     address::print(level, to);
 }
 
@@ -75,33 +68,33 @@ fn show_joined(from: u32, code: u8, to: &[u8]) {
 }
 
 fn show_step(level: u32, cell: u32, code: u8) {
-    print::two(b"level % cell % step ", level, cell);
+    lines::two(b"level % cell % step ", level, cell);
     print_code(code);
-    print::text(b": ");
+    lines::text(b": ");
     match step::step_along(level, cell, code) {
         StepAnswer::To(next) => print_step(level, cell, next),
-        StepAnswer::Refused(n) => print::refused(n),
+        StepAnswer::Refused(n) => lines::refused(n),
     }
 }
 
 fn print_step(level: u32, from: u32, to: u32) {
     print_from_to(level, from, to);
-    print::byte(b'\n');
+    lines::byte(b'\n');
 }
 
 fn show_code(level: u32, from: u32, to: u32) {
-    print::three(b"level % cell % to cell %: ", level, from, to);
+    lines::three(b"level % cell % to cell %: ", level, from, to);
     match step::code_between(level, from, to) {
         CodeAnswer::Along(code) => print_joining(level, from, to, code),
-        CodeAnswer::Refused(n) => print::refused(n),
+        CodeAnswer::Refused(n) => lines::refused(n),
     }
 }
 
 fn print_joining(level: u32, from: u32, to: u32, code: u8) {
     print_from_to(level, from, to);
-    print::text(b" is ");
+    lines::text(b" is ");
     print_code(code);
-    print::byte(b'\n');
+    lines::byte(b'\n');
 }
 
 // The codes from each address of a border to the next.
@@ -118,9 +111,9 @@ fn show_border(border: &[u8]) {
 }
 
 fn show_joint(from: u32, to: u32) {
-    print::byte(b' ');
+    lines::byte(b' ');
     match step::code_between(8, from, to) {
         CodeAnswer::Along(code) => print_code(code),
-        CodeAnswer::Refused(n) => print::refused(n),
+        CodeAnswer::Refused(n) => lines::refused(n),
     }
 }

@@ -91,16 +91,11 @@ fn show_day(
     temperatures: &mut [f32],
     ages: &mut [u8],
 ) {
-    print_numbers(level, limit);
+    lines::two(b"level % limit %", level, limit);
     print_sky(new, clouds);
     print_answer(chart::day(level, limit, new, clouds, temperatures, ages));
     print::slices(temperatures, ages);
-    print::text(b"\n");
-}
-
-fn print_numbers(level: u32, limit: u32) {
-    print::labelled(b"level ", level);
-    print::labelled(b" limit ", limit);
+    lines::byte(b'\n');
 }
 
 fn print_sky(new: &[f32], clouds: &[u8]) {
@@ -116,7 +111,7 @@ fn print_answer(answer: DayAnswer) {
 }
 
 fn print_summary(summary: Summary) {
-    print::labelled(b": count ", summary.count);
+    lines::one(b": count %", summary.count);
     print::temperature(b" coldest ", summary.coldest);
     print::temperature(b" warmest ", summary.warmest);
 }

@@ -48,17 +48,12 @@ fn show_range() {
 }
 
 fn show_day(limit: u32, clouds: u8, new: f32, old: f32, age: u8) {
-    print_sky(limit, clouds);
+    lines::two(b"limit % clouds %", limit, clouds as u32);
     print::temperature(b" new ", new);
-    print::text(b" old ");
+    lines::text(b" old ");
     readings::print_cell(old, age);
-    print::text(b": ");
+    lines::text(b": ");
     show_after(limit, clouds, new, old, age);
-}
-
-fn print_sky(limit: u32, clouds: u8) {
-    print::labelled(b"limit ", limit);
-    print::byte(b" clouds ", clouds);
 }
 
 // One of the cells after the day. A call that is refused would leave it.

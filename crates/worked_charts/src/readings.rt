@@ -66,32 +66,27 @@ pub fn show_reading(temperature: f32, age: u8) {
 }
 
 fn show_call(level: u32, temperatures: &[f32], ages: &[u8], cell: u32) {
-    print_numbers(level, cell);
+    lines::two(b"level % cell %", level, cell);
     print::slices(temperatures, ages);
     print_answer(chart::reading_of(level, temperatures, ages, cell));
 }
 
 pub fn print_cell(temperature: f32, age: u8) {
     print::temperature(b"temperature ", temperature);
-    print::byte(b" age ", age);
-}
-
-fn print_numbers(level: u32, cell: u32) {
-    print::labelled(b"level ", level);
-    print::labelled(b" cell ", cell);
+    lines::one(b" age %", age as u32);
 }
 
 fn print_answer(answer: ReadingAnswer) {
     match answer {
         ReadingAnswer::Fresh(t) => print::temperature(b": fresh ", t),
         ReadingAnswer::Carried(t, days) => print_carried(t, days),
-        ReadingAnswer::Gap => print::text(b": gap"),
+        ReadingAnswer::Gap => lines::text(b": gap"),
         ReadingAnswer::Refused(n) => print::refused(n),
     }
-    print::text(b"\n");
+    lines::byte(b'\n');
 }
 
 fn print_carried(temperature: f32, days: u8) {
     print::temperature(b": carried ", temperature);
-    print::byte(b" days ", days);
+    lines::one(b" days %", days as u32);
 }

@@ -5,19 +5,16 @@ use Rattle.worked_charts.proofs.print.bytes.Statement.{statement}
 use Rattle.worked_charts.proofs.print.bytes.Tie as tie
 
 abbrev Inv-loop : tie.InvT-loop
-Inv-loop label values i₀ t4 i-end i = i ≤ i-end
+Inv-loop label values i₀ i-end i = i ≤ i-end
 
 abbrev μ-loop : tie.MeasureT-loop
-μ-loop label values i₀ t4 i-end i = i-end - i
+μ-loop label values i₀ i-end i = i-end - i
 
 text-requires : tie.Need-text-requires Inv-loop μ-loop
 text-requires c κs = search needs
 
 loop-holds : tie.Need-loop-holds Inv-loop μ-loop
 loop-holds c = search needs
-
-slice-aggregate-byte : tie.Need-slice-aggregate-byte Inv-loop μ-loop
-slice-aggregate-byte c = search needs
 
 shared-slice-read-byte : tie.Need-shared-slice-read-byte Inv-loop μ-loop
 shared-slice-read-byte c = search needs
@@ -45,7 +42,6 @@ bytes-spec =
     μ-loop
     text-requires
     loop-holds
-    slice-aggregate-byte
     shared-slice-read-byte
     byte-requires
     add-i

@@ -1,0 +1,62 @@
+-- `address::print` is safe and ends. The invariant: fewer than 15 digits are left, and the measure is their number. Assumes nothing.
+use Prim.Native.Nat.{_<_}
+use borrow.Author.Needs.{needs}
+use Rattle.lines.proofs.address.print.Statement.{statement}
+use Rattle.lines.proofs.address.print.Tie as tie
+
+abbrev Inv-loop : tie.InvT-loop
+Inv-loop level cell left₀ left = left < 15
+
+abbrev μ-loop : tie.MeasureT-loop
+μ-loop level cell left₀ left = left
+
+mul-number : tie.Need-mul-number Inv-loop μ-loop
+mul-number c = search needs
+
+shr-number : tie.Need-shr-number Inv-loop μ-loop
+shr-number c = search needs
+
+number-requires : tie.Need-number-requires Inv-loop μ-loop
+number-requires c κs = search needs
+
+loop-holds : tie.Need-loop-holds Inv-loop μ-loop
+loop-holds c = search needs
+
+sub-left : tie.Need-sub-left Inv-loop μ-loop
+sub-left c = search needs
+
+mul-number-2 : tie.Need-mul-number-2 Inv-loop μ-loop
+mul-number-2 c = search needs
+
+shr-number-2 : tie.Need-shr-number-2 Inv-loop μ-loop
+shr-number-2 c = search needs
+
+number-requires-2 : tie.Need-number-requires-2 Inv-loop μ-loop
+number-requires-2 c κs = search needs
+
+loop-less : tie.Need-loop-less Inv-loop μ-loop
+loop-less c = search needs
+
+loop-again : tie.Need-loop-again Inv-loop μ-loop
+loop-again c = search needs
+
+returns : tie.Need-returns Inv-loop μ-loop
+returns c = search needs
+
+pub print-spec : {M : Type 1} → statement M
+print-spec =
+    tie.close
+    (tie.spec
+    Inv-loop
+    μ-loop
+    mul-number
+    shr-number
+    number-requires
+    loop-holds
+    sub-left
+    mul-number-2
+    shr-number-2
+    number-requires-2
+    loop-less
+    loop-again
+    returns)
