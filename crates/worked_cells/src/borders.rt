@@ -1,4 +1,6 @@
 // Stored borders: the published border written, read back and compared, and the border that the cell lister is worked out for.
+ghost use Prim.Native.Nat.{_≤_, _<_};
+ghost use lib.ListN.{length};
 use border_reader::BorderAnswer;
 use border_writer::LengthAnswer;
 use lines::address;
@@ -18,27 +20,37 @@ fn show_source_000() {
     read_addresses(&address::BORDER, &mut cells);
     lines::text(b"source 000 table 1 (b): ");
     match border_writer::write(8, &cells, &mut bytes) {
-        LengthAnswer::Written(length) => show_written(&cells, &bytes, length as usize),
+        LengthAnswer::Written(length) => show_written(&cells, &bytes, length),
         LengthAnswer::Refused(n) => lines::refused(n),
     }
 }
 
-fn read_addresses(addresses: &[u8], cells: &mut [u32]) {
-    let mut i: usize = 0;
-    let mut at: usize = 0;
-    while i < cells.len() && at + 9 <= addresses.len() {
-        cells[i] = address::read(&addresses[at..at + 9]);
-        at += 10;
-        i += 1;
+// Address i of a text of addresses of nine digits, with a space between; 0 past the end.
+fn address_at(addresses: &[u8], i: usize) -> u32
+    requires { ⌜ i < 64 ⌝ }
+{
+    let from = 10 * i;
+    if addresses.len() < from + 9 {
+        return 0;
+    }
+    address::read(&addresses[from..from + 9])
+}
+
+fn read_addresses(addresses: &[u8], cells: &mut [u32])
+    requires { ⌜ length (now cells) ≤ 64 ⌝ }
+{
+    for i in 0..cells.len() {
+        cells[i] = address_at(addresses, i);
     }
 }
 
 // The length, the bytes, and whether they read as the cells that were written.
-fn show_written(cells: &[u32], bytes: &[u8], length: usize) {
+fn show_written(cells: &[u32], bytes: &[u8], written: u32) {
+    let length = written as usize;
     if bytes.len() < length {
         return;
     }
-    lines::one(b"% bytes:", length as u32);
+    lines::one(b"% bytes:", written);
     show_bytes(&bytes[..length]);
     let mut back = [0u32; 64];
     match border_reader::read(&bytes[..length], &mut back) {
@@ -50,9 +62,13 @@ fn show_written(cells: &[u32], bytes: &[u8], length: usize) {
     }
 }
 
+fn wide(byte: u8) -> u32 {
+    byte as u32
+}
+
 fn show_bytes(bytes: &[u8]) {
     for i in 0..bytes.len() {
-        lines::one(b" %", bytes[i] as u32);
+        lines::one(b" %", wide(bytes[i]));
     }
 }
 
@@ -78,10 +94,10 @@ fn show_read(bytes: &[u8]) {
 
 fn show_cells(level: u32, count: usize, cells: &[u32]) {
     lines::one(b": level %, cells", level);
-    let mut i: usize = 0;
-    while i < count && i < cells.len() {
-        lines::one(b" %", cells[i]);
-        i += 1;
+    for i in 0..cells.len() {
+        if i < count {
+            lines::one(b" %", cells[i]);
+        }
     }
     lines::byte(b'\n');
 }
