@@ -7,7 +7,7 @@ use Rattle.refusal.specs.Tests.{badLength}
 use Rattle.bitset.specs.Bits.{marked, size}
 use Rattle.cell.specs.Cell.{cells}
 use Rattle.grow.specs.Grow.{grownCells, badRings}
-use Rattle.text.specs.Text.{decimal}
+use Rattle.text.specs.Text.{decimal, refusalLine}
 use Rattle.ring_counter.specs.declared.Outcome.{Outcome}
 use Rattle.ring_counter.specs.declared.Outcome.the-variants as outcome
 
@@ -23,10 +23,10 @@ counts m a = (size (cells 5) (marked a), size (cells 5) (grownCells 5 m (marked 
 abbrev pub ringCounts : List ℕ → Answer (ℕ × ℕ)
 ringCounts input = inOrder (badLength inputBytes input ∷ badRings (getD input 0 0) ∷ []) (counts (getD input 0 0) (drop 1 input))
 
--- a line: the two numbers with a space between them, or `refused` and the number
+-- a line: the two numbers with a space between them, or that of a refused call
 abbrev pub line : Answer (ℕ × ℕ) → List ℕ
 line (given c) = decimal (c .0) ++ (32 ∷ []) ++ decimal (c .1) ++ (10 ∷ [])
-line (refused n) = (114 ∷ 101 ∷ 102 ∷ 117 ∷ 115 ∷ 101 ∷ 100 ∷ 32 ∷ []) ++ decimal n ++ (10 ∷ [])
+line (refused n) = refusalLine n
 
 -- what is printed
 abbrev pub output : List ℕ → List ℕ

@@ -70,11 +70,7 @@ fn put_line(outcome: Outcome, out: &mut [u8; 64]) -> usize
             let c = text::append_decimal(out, b, after as u64);
             text::append(out, c, b"\n")
         }
-        Outcome::Refused(n) => {
-            let a = text::append(out, 0, b"refused ");
-            let b = text::append_decimal(out, a, n as u64);
-            text::append(out, b, b"\n")
-        }
+        Outcome::Refused(n) => text::append_refusal(out, 0, n),
     }
 }
 

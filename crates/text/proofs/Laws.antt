@@ -12,7 +12,7 @@ use lib.ListN.{length, take, drop, length-drop, length-append, length-take}
 use lib.Seq.{take-all, take-length, take-append-seam, drop-length, drop-drop}
 use Rattle.io.specs.Counts.{Counts}
 use Rattle.io.specs.Digits.{digits, Fewest}
-use Rattle.text.specs.Text.{spelled, appended}
+use Rattle.text.specs.Text.{spelled, decimal, appended, refusedWord, refusalLine}
 
 -- what does not fit is not put
 pub append-none : (out t : List ℕ) (at : ℕ) → length out < at + length t → (out, at) ≡ appended out at t
@@ -45,8 +45,8 @@ pub record Written (n : ℕ) (out : List ℕ) (at : ℕ) (s : List ℕ) : Type 0
   pub end : at ≡ length s
   pub front : take at out ≡ s
 
-pub written-none : (out : List ℕ) → Written (length out) out 0 []
-written-none out = record { long = refl; end = refl; front = refl }
+pub written-none : (n : ℕ) (out : List ℕ) → length out ≡ n → Written n out 0 []
+written-none n out e = record { long = e; end = refl; front = refl }
 
 pub written-more : (n : ℕ) (out o s t : List ℕ) (at r : ℕ) → length s + length t ≤ n → Written n out at s → (o, r) ≡ appended out at t → Written n o r (s ++ t)
 unfolding appended
@@ -112,3 +112,22 @@ spelled-short (suc j) n = go (ltb n 10) (spelled-short j (n / 10))
     go : (b : Bool) → length (spelled j (n / 10)) ≤ j → length (cond b ((48 + n) ∷ []) (spelled j (n / 10) ++ ((48 + n % 10) ∷ []))) ≤ suc j
     go true h = omega arith
     go false h = simp length-append (omega arith)
+
+-- ---- the line of a refused call
+
+-- 32 bytes have room for it, put piece after piece
+pub refusal-written : (out o₁ o₂ o₃ : List ℕ) (a₁ a₂ a₃ n : ℕ) → length out ≡ 32 →
+    (o₁, a₁) ≡ appended out 0 refusedWord → (o₂, a₂) ≡ appended o₁ a₁ (decimal n) → (o₃, a₃) ≡ appended o₂ a₂ (10 ∷ []) →
+    Written 32 o₃ a₃ (refusalLine n)
+refusal-written out o₁ o₂ o₃ a₁ a₂ a₃ n long e₁ e₂ e₃ =
+    let ln = spelled-short 20 n in
+    let w₁ = written-more 32 out o₁ [] refusedWord 0 a₁ (omega arith) (written-none 32 out long) e₁ in
+    let w₂ = written-more 32 o₁ o₂ refusedWord (decimal n) a₁ a₂ (omega arith) w₁ e₂ in
+    written-more 32 o₂ o₃ (refusedWord ++ decimal n) (10 ∷ []) a₂ a₃ (simp length-append (omega arith)) w₂ e₃
+
+-- it alone, at the front of a slice
+pub refusal-alone : (out o : List ℕ) (a n : ℕ) → 29 ≤ length out → (o, a) ≡ appended out 0 (refusalLine n) → Counts a o × (take a o ≡ refusalLine n)
+refusal-alone out o a n h e =
+    let ln = spelled-short 20 n in
+    let w = written-more (length out) out o [] (refusalLine n) 0 a (simp length-append (omega arith)) (written-none (length out) out refl) e in
+    (written-counts (length out) o a (refusalLine n) w, w .front)

@@ -18,3 +18,11 @@ decimal n = spelled 20 n
 unfoldable pub appended : List ℕ → ℕ → List ℕ → List ℕ × ℕ
 appended out at t =
     cond (leb (at + length t) (length out)) (take at out ++ (t ++ drop (at + length t) out), at + length t) (out, at)
+
+-- `refused` and a space
+abbrev pub refusedWord : List ℕ
+refusedWord = 114 ∷ 101 ∷ 102 ∷ 117 ∷ 115 ∷ 101 ∷ 100 ∷ 32 ∷ []
+
+-- the line of a refused call: the word, its number and the line end
+abbrev pub refusalLine : ℕ → List ℕ
+refusalLine n = refusedWord ++ decimal n ++ (10 ∷ [])

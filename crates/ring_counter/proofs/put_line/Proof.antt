@@ -1,8 +1,10 @@
--- `put_line` meets its contract, piece after piece. Assumes nothing.
+-- `put_line` meets its contract: two counts piece after piece, or the line of a refusal. Assumes nothing.
 use mathlib.Core.Path.{_≡_}
+use native.Mathlib.Omega.{arith}
 use borrow.Author.Needs.{needs}
 use lib.ListN.{length}
-use Rattle.ring_counter.proofs.Lines.{counts-line, refusal-line}
+use Rattle.text.proofs.Laws.{refusal-alone}
+use Rattle.ring_counter.proofs.Lines.{counts-line}
 use Rattle.ring_counter.proofs.put_line.Statement.{statement}
 use Rattle.ring_counter.proofs.put_line.Tie as tie
 
@@ -36,29 +38,14 @@ append-requires-2 c κs = search needs
 enum-known-outcome-2 : tie.Need-enum-known-outcome-2
 enum-known-outcome-2 c = search needs
 
-slice-aggregate-append-3 : tie.Need-slice-aggregate-append-3
-slice-aggregate-append-3 c = search needs
-
-append-requires-3 : tie.Need-append-requires-3
-append-requires-3 c κs = search needs
-
-cast-append-decimal-3 : tie.Need-cast-append-decimal-3
-cast-append-decimal-3 c = search needs
-
-append-decimal-requires-3 : tie.Need-append-decimal-requires-3
-append-decimal-requires-3 c κs = search needs
-
-slice-aggregate-append-4 : tie.Need-slice-aggregate-append-4
-slice-aggregate-append-4 c = search needs
-
-append-requires-4 : tie.Need-append-requires-4
-append-requires-4 c κs = search needs
+append-refusal-requires : tie.Need-append-refusal-requires
+append-refusal-requires c κs = search needs
 
 -- the slice has room for the line
 room : (c : tie.After-append-decimal-arg) → length (c .before .before .before .before .args .out .now) ≡ 64
 room c = search needs
 
-room-2 : (c : tie.After-append-arg5) → length (c .before .before .before .before .args .out .now) ≡ 64
+room-2 : (c : tie.After-append-refusal-arg) → length (c .before .before .before .before .args .out .now) ≡ 64
 room-2 c = search needs
 
 returns : tie.Need-returns
@@ -69,7 +56,7 @@ returns c =
     let o = d₁ .before .before .before in
     let e = o .before .before in
     rw (o .outcome .given .1)
-    (counts-line (e .args .out .now) (room (d₁ .before)) _ _ _ _ _ _ _ _ _ _
+    (counts-line (e .args .out .now) _ _ _ _ _ _ _ _ _ _ (room (d₁ .before))
     (d₁ .append-decimal .ensures)
     (t₁ .append .ensures)
     (d₂ .append-decimal2 .ensures)
@@ -77,15 +64,9 @@ returns c =
 
 returns-2 : tie.Need-returns-2
 returns-2 c =
-    let d = c .before .before .before in
-    let t = d .before .before in
-    let o = t .before .before .before .before in
+    let o = c .before .before .before in
     let e = o .before .before in
-    rw (o .outcome2 .given .1)
-    (refusal-line (e .args .out .now) (room-2 (t .before .before)) _ _ _ _ _ _ _
-    (t .append3 .ensures)
-    (d .append-decimal3 .ensures)
-    (c .append4 .ensures))
+    rw (o .outcome2 .given .1) (refusal-alone (e .args .out .now) _ _ _ (omega (arith, room-2 (c .before))) (c .append-refusal .ensures))
 
 pub put-line-spec : {M : Type 1} → statement M
 put-line-spec =
@@ -101,11 +82,6 @@ put-line-spec =
     slice-aggregate-append-2
     append-requires-2
     enum-known-outcome-2
-    slice-aggregate-append-3
-    append-requires-3
-    cast-append-decimal-3
-    append-decimal-requires-3
-    slice-aggregate-append-4
-    append-requires-4
+    append-refusal-requires
     returns
     returns-2)
