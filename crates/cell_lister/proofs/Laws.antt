@@ -1,6 +1,6 @@
 -- The lines of a border, piece after piece, and that no more of the input is wanted than is read. Assumes nothing.
 use Prim.Native.Nat.{ℕ, _+_, _*_, _≤_, _<_}
-use mathlib.Core.Path.{_≡_, refl, sym, ap, subst, _∙_}
+use mathlib.Core.Path.{_≡_, sym, ap, subst, _∙_}
 use mathlib.Core.List.{List, [], _∷_, _++_, append-nil, append-assoc}
 use native.Mathlib.Numerals.{add-one}
 use native.Mathlib.Omega.{arith}
@@ -69,7 +69,7 @@ cell-put n front cells i o o₁ o₂ a a₁ a₂ room short h m w e₁ e₂ =
 
 -- ---- the input
 
--- the cells read are as many as codes and one more, and fit
+-- the cells read are one more than the codes, and fit the slice
 pub few-cells : (bs out cells : List ℕ) (k n : ℕ) → (given (k, n), cells) ≡ readBorder bs out → n ≤ length out
 few-cells bs out cells k n e =
     let g : readBorder bs out .0 ≡ given (k, n) = sym (ap (λ (p : Answer (ℕ × ℕ) × List ℕ). p .0) e) in

@@ -24,6 +24,6 @@ abbrev pub listed : Answer (ℕ × ℕ) × List ℕ → List ℕ
 listed (given (k, n), cells) = levelLine k ++ lines (take n cells)
 listed (refused i, cells) = refusalLine i
 
--- what is printed; a border has at most 4,097 cells, so no slice is too short
+-- what is printed; a border has at most 4,097 cells, so the slice is never too short
 abbrev pub output : List ℕ → List ℕ
 output input = listed (readBorder input (replicate 4097 0))

@@ -1,8 +1,9 @@
 -- `output_of` meets its contract: the lines of what the reader answers. Assumes nothing.
 use Prim.Native.Nat.{ℕ, _≤_}
-use mathlib.Core.Path.{_≡_, refl, ap, subst, _∙_}
+use mathlib.Core.Path.{_≡_, ap, subst, _∙_}
 use mathlib.Core.List.{List}
 use native.Mathlib.Omega.{arith}
+use borrow.Author.Needs.{needs}
 use lib.ListN.{length, replicate}
 use Rattle.refusal.specs.Answer.{Answer, given}
 use Rattle.border.specs.Border.{readBorder}
@@ -11,7 +12,6 @@ use Rattle.border_reader.specs.Reader.{saidBorder}
 use Rattle.text.proofs.Laws.{refusal-alone}
 use Rattle.cell_lister.specs.CellLister.{listed}
 use Rattle.cell_lister.proofs.Laws.{few-cells}
-use borrow.Author.Needs.{needs}
 use Rattle.cell_lister.proofs.output_of.Statement.{statement}
 use Rattle.cell_lister.proofs.output_of.Tie as tie
 
@@ -37,12 +37,13 @@ told {r} {s} {l} {v} e h = subst (λ (t : BorderAnswer). (saidBorder t, l) ≡ v
 abbrev entry : tie.After-read → tie.Start
 entry r = r .before .before .before
 
--- the cells that were read, and that they fit
+-- the cells that were read
 read-as : (l : tie.After-level) →
     let r = l .before .before .before in
     (given (l .level .given .0 .0, l .level .given .0 .1 .0), r .read .last .1 .0) ≡ readBorder (entry r .args .input .now) (replicate 4097 0)
-read-as l = let r = l .before .before .before in told (l .level .given .1) (r .read .ensures)
+read-as l = let r = l .before .before .before in told {v = readBorder (entry r .args .input .now) (replicate 4097 0)} (l .level .given .1) (r .read .ensures)
 
+-- they fit
 few : (l : tie.After-level) → l .level .given .0 .1 .0 ≤ 4097
 few l = few-cells _ (replicate 4097 0) _ _ _ (read-as l)
 
@@ -58,6 +59,7 @@ append-refusal-requires c κs = search needs
 returns : tie.Need-returns
 returns c = (c .put-cells .ensures .0, c .put-cells .ensures .1 ∙ ap listed (read-as (c .before .before .before .before)))
 
+-- the slice has room for the line of a refused call
 long : (c : tie.After-append-refusal-arg) → length (entry (c .before .before .before .before .before) .args .out .now) ≡ 86064
 long c = search needs
 

@@ -43,7 +43,10 @@ begun l =
     let a = entry l .args in
     let d = l .before .before .before .before .before in
     let w = d .before .before .before .before in
-    level-put _ (a .level) (a .cells .now) (a .out .now) _ _ _ _ _ _ (entry l .pre .2) refl (w .append .ensures) (d .append-decimal .ensures) (l .append2 .ensures)
+    level-put _ (a .level) (a .cells .now) (a .out .now) _ _ _ _ _ _ (entry l .pre .2) refl
+    (w .append .ensures)
+    (d .append-decimal .ensures)
+    (l .append2 .ensures)
 
 loop-holds : tie.Need-loop-holds Inv-loop μ-loop
 loop-holds c = let w = begun (c .before .before) in (omega arith, record { long = refl; end = w .end; front = w .front })
