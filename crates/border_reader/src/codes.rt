@@ -13,7 +13,7 @@ fn byte_at(bytes: &[u8], i: usize) -> u32
 }
 
 // Code i: eight codes take three bytes, and one code lies in one byte or in two.
-pub fn code_at(bytes: &[u8], i: usize) -> u8
+pub(crate) fn code_at(bytes: &[u8], i: usize) -> u8
     requires { ⌜ i ≤ 8192 ⌝ }
     ensures { λ r. ⌜ r ≡ valueOf 256 (now (bytes .entry)) / 8 ^ i % 8 ⌝ }
 {
@@ -23,7 +23,7 @@ pub fn code_at(bytes: &[u8], i: usize) -> u8
 }
 
 // Whether the bits after some codes are zeros, where the bytes are as many as the codes take: at most seven bits are left.
-pub fn is_padded(bytes: &[u8], count: usize) -> bool
+pub(crate) fn is_padded(bytes: &[u8], count: usize) -> bool
     requires { ⌜ (count ≤ 4096) × (length (now bytes) ≡ codeBytes count) ⌝ }
     ensures { λ r. ⌜ r ≡ ltb (valueOf 256 (now (bytes .entry))) (8 ^ count) ⌝ }
 {

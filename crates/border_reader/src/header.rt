@@ -7,20 +7,20 @@ use cell::CellNumber;
 use varint::ReadAnswer;
 
 // The three, and the place after them.
-pub struct Header {
-    pub level: u32,
-    pub start: CellNumber,
-    pub count: u32,
-    pub next: usize,
+pub(crate) struct Header {
+    pub(crate) level: u32,
+    pub(crate) start: CellNumber,
+    pub(crate) count: u32,
+    pub(crate) next: usize,
 }
 
-pub enum HeaderAnswer {
+pub(crate) enum HeaderAnswer {
     Read(Header),
     Refused(u8),
 }
 
 // For level, start and count in turn the number and then its bound.
-pub fn read_header(bytes: &[u8]) -> HeaderAnswer
+pub(crate) fn read_header(bytes: &[u8]) -> HeaderAnswer
     ensures answer { λ r. ⌜ saidHeader r ≡ inOrder (headerTests (now (bytes .entry))) (header (now (bytes .entry))) ⌝ }
     ensures sound { λ r. ⌜ Sound (now (bytes .entry)) r ⌝ }
 {

@@ -50,7 +50,7 @@ fn copy_cells(met: &[CellNumber], count: usize, cells: &mut [CellNumber])
 }
 
 // The codes after a header: nothing is written before the last of them is walked.
-pub fn read_codes(bytes: &[u8], header: Header, cells: &mut [CellNumber]) -> BorderAnswer
+pub(crate) fn read_codes(bytes: &[u8], header: Header, cells: &mut [CellNumber]) -> BorderAnswer
     requires { ⌜ (header .count ≤ maxCodes) × (header .next ≤ length (now bytes)) ⌝ }
     ensures { λ r. ⌜ (saidBorder r, now (cells .exit)) ≡ readOn (now (bytes .entry)) (now (cells .entry)) (headerIs header) ⌝ }
 {

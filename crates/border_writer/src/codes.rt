@@ -6,7 +6,7 @@ ghost use lib.Seq.{sets};
 ghost use Rattle.border.specs.Stored.{codeBytes, packed};
 
 // Puts codes into a slice from a place on.
-pub fn pack(codes: &[u8], out: &mut [u8], at: usize)
+pub(crate) fn pack(codes: &[u8], out: &mut [u8], at: usize)
     requires { ⌜ ((i : ℕ) → getD (now codes) i 0 < 8) × (at + codeBytes (length (now codes)) ≤ length (now out)) ⌝ }
     ensures { λ _. ⌜ now (out .exit) ≡ sets (now (out .entry)) at (packed (now (codes .entry))) ⌝ }
 {

@@ -16,7 +16,7 @@ use cell::CellNumber;
 use step::CodeAnswer;
 
 // Whether each cell is one of the level.
-pub fn all_below(level: u32, cells: &[CellNumber]) -> bool
+pub(crate) fn all_below(level: u32, cells: &[CellNumber]) -> bool
     requires { ⌜ level ≤ maxLevel ⌝ }
     ensures { λ r. ⌜ r ≡ not (anyFrom (cellsOfLevel level) (now (cells .entry))) ⌝ }
 {
@@ -31,7 +31,7 @@ pub fn all_below(level: u32, cells: &[CellNumber]) -> bool
 }
 
 // Finds the codes that join cells one after another. Answers whether every one is there.
-pub fn find_codes(level: u32, cells: &[CellNumber], codes: &mut [u8]) -> bool
+pub(crate) fn find_codes(level: u32, cells: &[CellNumber], codes: &mut [u8]) -> bool
     requires { ⌜ (1 ≤ length (now cells)) × (length (now cells) ≤ length (now codes) + 1) ⌝ }
     ensures there { λ r. ⌜ r ≡ found (codesOf level (now (cells .entry))) ⌝ }
     ensures codes { λ r. ⌜ (r ≡ true → take (length (now (cells .entry)) - 1) (now (codes .exit)) ≡ foundOr [] (codesOf level (now (cells .entry)))) ⌝ }
@@ -50,7 +50,7 @@ pub fn find_codes(level: u32, cells: &[CellNumber], codes: &mut [u8]) -> bool
 }
 
 // Puts a border into a slice that has room for it.
-pub fn put(level: u32, start: CellNumber, codes: &[u8], out: &mut [u8]) -> LengthAnswer
+pub(crate) fn put(level: u32, start: CellNumber, codes: &[u8], out: &mut [u8]) -> LengthAnswer
     requires { ⌜ (length (now codes) ≤ 4096) × ((i : ℕ) → getD (now codes) i 0 < 8) ⌝ }
     ensures { λ r. ⌜ (saidLength r, now (out .exit)) ≡ writeOn level start (now (codes .entry)) (now (out .entry)) ⌝ }
 {

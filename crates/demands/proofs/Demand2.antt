@@ -24,6 +24,7 @@ use Rattle.step.proofs.Calls.{calls-agree, code-once, call-back, three-neighbou
 use Rattle.touch.proofs.Laws.{touching-6, touching-10, touching-12, cells-at-4, cells-at-6}
 use Rattle.touch.proofs.Indirect.{direct-3, indirect-3, indirect-7}
 use Rattle.fill.proofs.Laws.{fill-exactly, border-filled, outside-not-filled}
+use Rattle.varint.proofs.Laws as numbers
 use Rattle.border.proofs.Laws.{read-written, write-read, same-border, written-length}
 use Rattle.demands.specs.Demand2.{Demand2}
 use Rattle.demands.proofs.Borders.{one-cell}
@@ -145,6 +146,8 @@ demand-2 = record {
   day-coldest = day-coldest;
   day-warmest = day-warmest;
   day-none = day-none;
+  number-read = numbers.read-written;
+  number-exactly = numbers.read-exactly;
   border-read = read-written;
   border-written = write-read;
   one-border = same-border;

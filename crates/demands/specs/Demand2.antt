@@ -14,7 +14,7 @@ use Rattle.cell.specs.Cell.{Frame, up, down, child, Place, place, Occurs, cells
 use Rattle.position.specs.Position.{q, latitudeOut, longitudeOut, beginning, northOctant, offset, octant, Holds, cellCall, centreCall}
 use Rattle.step.specs.Step.{across, east, west, stepCall, codeCall}
 use Rattle.step.specs.Neighbours.{back, direct, isDirect, Neighbours}
-use Rattle.varint.specs.Varint.{numeral}
+use Rattle.varint.specs.Varint.{numeral, readCall, Exactly}
 use Rattle.border.specs.Border.{readBorder, borderBytes, writeBorder}
 use Rattle.corner.specs.Corner.{Point, norm, corners, touchCall}
 use Rattle.touch.specs.Touch.{rising, indirect, CornerCell, cellsAt, Tip, unused, listCall}
@@ -188,6 +188,11 @@ pub record Demand2 : Type 0 where
   -- where it is 0 they are 0.0 twice
   pub day-none : (k d : ℕ) (new : List Float) (clouds : List ℕ) (temps : List Float) (ages : List ℕ) (s : Summary) →
       dayCall k d new clouds temps ages .0 ≡ given s → s .0 ≡ 0 → (s .1 ≡ nought) × (s .2 ≡ nought)
+  -- stored numbers: a number is read from where it was written
+  pub number-read : (n at : ℕ) (front rest : List ℕ) → n < 2 ^ 32 → length front ≡ at →
+      readCall (front ++ (numeral n ++ rest)) at ≡ given (n, at + length (numeral n))
+  -- and what is read is below 2^32, in the shortest form, and of no other bytes
+  pub number-exactly : (bs : List ℕ) (at v next : ℕ) → Bytes bs → readCall bs at ≡ given (v, next) → Exactly bs at v next
   -- a border stored and read is the same border: what the writer writes, the reader reads as the same level and cells
   pub border-read : (k : ℕ) (cs out lent : List ℕ) (n : ℕ) → writeBorder k cs out .0 ≡ given n → length cs ≤ length lent →
       readBorder (take n (writeBorder k cs out .1)) lent ≡ (given (k, length cs), cs ++ drop (length cs) lent)
