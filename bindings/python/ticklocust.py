@@ -1,0 +1,469 @@
+r"""Triangular cells of the globe, masks of cloud on them, and charts of sea temperature whose every
+temperature has its age: the proved library libticklocust, through ctypes.
+
+Each function is one call of include/ticklocust.h. It gives its answer or raises Refused, whose
+`number` is that of document 01's table; a refused call leaves every buffer as it was.
+
+Buffers are bytes, bytearray, memoryview, array.array or numpy arrays, contiguous, and are never
+copied. Masks, ages and stored borders are bytes; temperatures are 32-bit floats ('f') and cells
+32-bit unsigned numbers ('I'), or the bytes of either as a file has them. What a call writes is
+writable and overlaps nothing else that the call is given. Where nothing is given to be written, the
+call makes it. During a call other threads run; they must not change its buffers.
+
+    >>> cell = cell_at(1, Latitude(22_500_000), Longitude(30_000_000))
+    >>> cell, centre(1, cell)
+    (0, (Latitude(microdegrees=30000000), Longitude(microdegrees=45000000)))
+
+The shared object is looked for by its whole name in TICKLOCUST_SO, then as libticklocust.so beside
+this file, two folders up (an installed PREFIX/lib), in the repository's target/bindings, and where
+the system looks. It is made from the archive by one command:
+
+    gcc -shared -o libticklocust.so \
+        -Wl,--whole-archive libticklocust.a -Wl,--no-whole-archive
+"""
+
+from __future__ import annotations
+
+import ctypes
+import enum
+import operator
+import os
+from array import array
+from contextlib import contextmanager
+from ctypes import byref, c_float, c_int32, c_size_t, c_uint32, c_void_p
+from dataclasses import dataclass
+from pathlib import Path
+from typing import TYPE_CHECKING, Any, Iterator, NamedTuple
+
+if TYPE_CHECKING:
+    from _typeshed import ReadableBuffer, WriteableBuffer
+
+__all__ = [
+    "CODES", "Kind", "Latitude", "Longitude", "Reading", "Refused", "Summary", "Within",
+    "border_read", "border_write", "cell_at", "centre", "code", "count", "day", "fill", "grow",
+    "join", "reading", "shrink", "step", "touching", "within",
+]
+
+CODES = "tlrewTEW"
+"""The letters of the codes 0 to 7; T, E and W cross the edge of an octant."""
+
+_NO_CELL = 0xFFFFFFFF
+_TOUCHING = 12
+_MOST_CELLS = 4097
+_MOST_BYTES = 1544
+
+_SENTENCES = {
+    1: "the level is above its bound: 14 for cells and borders, 8 for masks and charts",
+    2: "the latitude is outside its range: -90000000 to 90000000 millionths of a degree",
+    3: "the longitude is outside its range: -180000000 to 179999999 millionths of a degree",
+    4: "the cell number is not below 8 x 4^level",
+    5: "a slice is not of the length that the level asks for; for borders, too short, or no cells",
+    6: "more than 64 rings, or more than 30 days",
+    7: "there is no such step: a code above 7, a code that is absent there, or two cells that no "
+    "code joins",
+    8: "the outside cell is marked",
+    9: "the border has more than 4096 codes",
+    10: "the bytes end early",
+    11: "a stored number is not in its form: shortest, at most five bytes, below 2^32",
+    12: "pad bits are not zero, or bytes are left over",
+}
+
+
+class Refused(Exception):
+    """A call was refused. `number` is 1 to 12, as document 01's table has it."""
+
+    number: int
+
+    def __init__(self, number: int) -> None:
+        super().__init__(number)
+        self.number = number
+
+    def __str__(self) -> str:
+        return f"refused {self.number}: {_SENTENCES[self.number]}"
+
+
+@dataclass(frozen=True, order=True)
+class Latitude:
+    """A latitude in millionths of a degree, -90,000,000 to 90,000,000; south is negative."""
+
+    microdegrees: int
+
+
+@dataclass(frozen=True, order=True)
+class Longitude:
+    """A longitude in millionths of a degree, -180,000,000 to 179,999,999; west is negative."""
+
+    microdegrees: int
+
+
+class Kind(enum.Enum):
+    """What a temperature is worth."""
+
+    FRESH = "fresh"
+    CARRIED = "carried"
+    GAP = "gap"
+
+
+class Reading(NamedTuple):
+    """What a chart says of a cell: FRESH with temperature and 0 days, CARRIED with temperature and
+    1 to 30 days, or GAP with neither. It is no number: a caller has to take it apart."""
+
+    kind: Kind
+    temperature: float | None
+    days: int | None
+
+    def __str__(self) -> str:
+        if self.kind is Kind.GAP:
+            return "gap"
+        if self.kind is Kind.FRESH:
+            return f"fresh {self.temperature}"
+        return f"carried {self.temperature}, {self.days} day{'' if self.days == 1 else 's'}"
+
+
+class Summary(NamedTuple):
+    """The fresh cells of the chart that a day leaves; with none, 0 and 0.0 twice."""
+
+    count: int
+    coldest: float
+    warmest: float
+
+
+@dataclass(frozen=True)
+class Within:
+    """Whether one mask is within another: true, or false with the lowest cell that lacks."""
+
+    lacking: int | None
+
+    def __bool__(self) -> bool:
+        return self.lacking is None
+
+
+# The shared object.
+
+_SLICE = (c_void_p, c_size_t)
+_WORD = ctypes.POINTER(c_uint32)
+_SIGNED = ctypes.POINTER(c_int32)
+_FLOAT = ctypes.POINTER(c_float)
+_CALLS: dict[str, tuple[Any, ...]] = {
+    "cell_at": (c_uint32, c_int32, c_int32, _WORD),
+    "centre": (c_uint32, c_uint32, _SIGNED, _SIGNED),
+    "step": (c_uint32, c_uint32, c_uint32, _WORD),
+    "code": (c_uint32, c_uint32, c_uint32, _WORD),
+    "touching": (c_uint32, c_uint32, *_SLICE, _WORD),
+    "border_read": (*_SLICE, *_SLICE, _WORD, _WORD),
+    "border_write": (c_uint32, *_SLICE, *_SLICE, _WORD),
+    "grow": (c_uint32, c_uint32, *_SLICE, *_SLICE, *_SLICE),
+    "shrink": (c_uint32, c_uint32, *_SLICE, *_SLICE, *_SLICE),
+    "join": (c_uint32, *_SLICE, *_SLICE, *_SLICE),
+    "count": (c_uint32, *_SLICE, _WORD),
+    "within": (c_uint32, *_SLICE, *_SLICE, _WORD),
+    "fill": (c_uint32, *_SLICE, c_uint32, *_SLICE),
+    "reading": (c_uint32, c_uint32, *_SLICE, *_SLICE, _WORD, _FLOAT, _WORD),
+    "day": (c_uint32, c_uint32, *_SLICE, *_SLICE, *_SLICE, *_SLICE, _WORD, _FLOAT, _FLOAT),
+}
+
+
+def _load() -> ctypes.CDLL:
+    name = "libticklocust.so"
+    named = os.environ.get("TICKLOCUST_SO")
+    here = Path(__file__).resolve().parent
+    above = here.parent.parent
+    folders = [here, above, above / "target" / "bindings"]
+    found = (str(folder / name) for folder in folders if (folder / name).is_file())
+    try:
+        library = ctypes.CDLL(named or next(found, name))
+    except OSError as error:
+        raise ImportError(f"{error}; the words above this module say how {name} is made") from None
+    for call, types in _CALLS.items():
+        function = getattr(library, f"ticklocust_{call}")
+        function.argtypes, function.restype = types, c_uint32
+    return library
+
+
+_library = _load()
+
+
+def _call(name: str, *words: Any) -> None:
+    number = getattr(_library, f"ticklocust_{name}")(*words)
+    if number:
+        raise Refused(number)
+
+
+# Numbers and buffers, as the C interface wants them.
+
+
+def _whole(name: str, value: int) -> int:
+    """A number for 32 bits. One that is too large becomes the largest, which is refused alike."""
+    value = operator.index(value)
+    if value < 0:
+        raise ValueError(f"{name} is negative: {value}")
+    return min(value, 0xFFFFFFFF)
+
+
+def _microdegrees(value: Latitude | Longitude, kind: type) -> int:
+    if not isinstance(value, kind):
+        raise TypeError(f"a {kind.__name__} is needed, not {value!r}")
+    return max(-(2**31), min(operator.index(value.microdegrees), 2**31 - 1))
+
+
+class _Py_buffer(ctypes.Structure):
+    """CPython's view of a buffer, which has been the same since 3.3."""
+
+    _fields_ = [
+        ("buf", c_void_p), ("obj", c_void_p), ("len", ctypes.c_ssize_t),
+        ("itemsize", ctypes.c_ssize_t), ("readonly", ctypes.c_int), ("ndim", ctypes.c_int),
+        ("format", ctypes.c_char_p), ("shape", c_void_p), ("strides", c_void_p),
+        ("suboffsets", c_void_p), ("internal", c_void_p),
+    ]  # fmt: skip
+
+
+_get_buffer = ctypes.pythonapi.PyObject_GetBuffer
+_get_buffer.argtypes = (ctypes.py_object, ctypes.POINTER(_Py_buffer), ctypes.c_int)
+_release_buffer = ctypes.pythonapi.PyBuffer_Release
+_release_buffer.argtypes, _release_buffer.restype = (ctypes.POINTER(_Py_buffer),), None
+_WRITABLE, _FORMAT, _CONTIGUOUS = 0x1, 0x4, 0x38
+_BYTES, _FLOATS, _WORDS = ("B", 1), ("f", 4), ("I", 4)
+_nowhere = ctypes.c_uint64()
+
+
+class _Lent(NamedTuple):
+    name: str
+    buffer: Any
+    element: tuple[str, int]
+    written: bool
+
+
+def _read(name: str, buffer: ReadableBuffer, element: tuple[str, int] = _BYTES) -> _Lent:
+    return _Lent(name, buffer, element, False)
+
+
+def _written(name: str, buffer: WriteableBuffer, element: tuple[str, int] = _BYTES) -> _Lent:
+    return _Lent(name, buffer, element, True)
+
+
+@contextmanager
+def _lend(*lent: _Lent) -> Iterator[list[tuple[int, int]]]:
+    """The pointer and the length of each buffer, which stays where it is meanwhile."""
+    views: list[_Py_buffer] = []
+    try:
+        for _, buffer, _, written in lent:
+            view = _Py_buffer()
+            _get_buffer(buffer, byref(view), _FORMAT | _CONTIGUOUS | (_WRITABLE * written))
+            views.append(view)
+        for i, one in enumerate(lent):
+            for j, other in enumerate(lent):
+                if i != j and one.written and _overlap(views[i], views[j]):
+                    raise ValueError(f"{one.name} overlaps {other.name}")
+        yield [_slice(one, view) for one, view in zip(lent, views)]
+    finally:
+        for view in views:
+            _release_buffer(byref(view))
+
+
+def _overlap(a: _Py_buffer, b: _Py_buffer) -> bool:
+    if not (a.len and b.len):
+        return False
+    return a.buf < b.buf + b.len and b.buf < a.buf + a.len
+
+
+def _slice(lent: _Lent, view: _Py_buffer) -> tuple[int, int]:
+    letter, size = lent.element
+    format = (view.format or b"B").decode().lstrip("@=<")
+    if format not in ("B", "b", "c", letter) or view.itemsize not in (1, size):
+        raise TypeError(f"{lent.name} has elements '{format}', not '{letter}' or bytes")
+    # Bytes that end within an element are none, and are refused by their length.
+    length = 0 if view.len % size else view.len // size
+    # An empty buffer may begin anywhere, also nowhere.
+    pointer = view.buf if length else ctypes.addressof(_nowhere)
+    if pointer % size:
+        raise ValueError(f"{lent.name} does not begin at a multiple of {size} bytes")
+    return pointer, length
+
+
+# Cells.
+
+
+def cell_at(level: int, latitude: Latitude, longitude: Longitude) -> int:
+    """The cell at a position. Level 0 to 14. Refused: 1, 2, 3."""
+    cell = c_uint32()
+    at = _microdegrees(latitude, Latitude), _microdegrees(longitude, Longitude)
+    _call("cell_at", _whole("level", level), *at, byref(cell))
+    return cell.value
+
+
+def centre(level: int, cell: int) -> tuple[Latitude, Longitude]:
+    """The centre of a cell. Level 0 to 14. Refused: 1, 4."""
+    latitude, longitude = c_int32(), c_int32()
+    words = _whole("level", level), _whole("cell", cell)
+    _call("centre", *words, byref(latitude), byref(longitude))
+    return Latitude(latitude.value), Longitude(longitude.value)
+
+
+def step(level: int, cell: int, code: int) -> int:
+    """The cell that a code leads to. Level 0 to 14. Refused: 1, 4, 7."""
+    to = c_uint32()
+    words = _whole("level", level), _whole("cell", cell), _whole("code", code)
+    _call("step", *words, byref(to))
+    return to.value
+
+
+def code(level: int, start: int, to: int) -> int:
+    """The code that leads from one cell to another. Level 0 to 14. Refused: 1, 4, 7."""
+    found = c_uint32()
+    words = _whole("level", level), _whole("start", start), _whole("to", to)
+    _call("code", *words, byref(found))
+    return found.value
+
+
+def touching(level: int, cell: int) -> tuple[int, ...]:
+    """The cells that touch a cell, rising by number. Level 0 to 14. Refused: 1, 4."""
+    cells, count = (c_uint32 * _TOUCHING)(), c_uint32()
+    words = _whole("level", level), _whole("cell", cell)
+    _call("touching", *words, ctypes.addressof(cells), _TOUCHING, byref(count))
+    return tuple(cells[: count.value])
+
+
+# Borders.
+
+
+def border_read(
+    stored: ReadableBuffer, cells: WriteableBuffer | None = None
+) -> tuple[int, memoryview]:
+    """Reads a stored border into the front of `cells` and gives its level and that front.
+    Refused: for the level 10 or 11, then 1; for the start cell 10 or 11, then 4; for the number of
+    codes 10 or 11, then 9; then 10, 12, 5, 7."""
+    cells = array("I", bytes(4 * _MOST_CELLS)) if cells is None else cells
+    level, count = c_uint32(), c_uint32()
+    with _lend(_read("stored", stored), _written("cells", cells, _WORDS)) as (a, b):
+        _call("border_read", *a, *b, byref(level), byref(count))
+    return level.value, memoryview(cells).cast("B").cast("I")[: count.value]
+
+
+def border_write(
+    level: int, cells: ReadableBuffer, stored: WriteableBuffer | None = None
+) -> memoryview:
+    """Writes a border in its stored form into the front of `stored` and gives that front. Level 0
+    to 14. Refused: 1, 5 (no cells), 9, 4, 7, 5 (`stored` too short)."""
+    stored = bytearray(_MOST_BYTES) if stored is None else stored
+    length = c_uint32()
+    with _lend(_read("cells", cells, _WORDS), _written("stored", stored)) as (a, b):
+        _call("border_write", _whole("level", level), *a, *b, byref(length))
+    return memoryview(stored).cast("B")[: length.value]
+
+
+# Masks.
+
+
+def _like(mask: ReadableBuffer) -> bytearray:
+    return bytearray(memoryview(mask).nbytes)
+
+
+def _rings(
+    name: str, level: int, rings: int, mask: ReadableBuffer, out: Any, work: Any
+) -> WriteableBuffer:
+    out = _like(mask) if out is None else out
+    work = _like(mask) if work is None else work
+    with _lend(_read("mask", mask), _written("out", out), _written("work", work)) as (a, b, c):
+        _call(name, _whole("level", level), _whole("rings", rings), *a, *b, *c)
+    return out
+
+
+def grow(
+    level: int,
+    rings: int,
+    mask: ReadableBuffer,
+    out: WriteableBuffer | None = None,
+    work: WriteableBuffer | None = None,
+) -> WriteableBuffer:
+    """The mask of the cells at most `rings` touching steps from a marked one, 0 to 64; `work` holds
+    zeros afterwards. Level 0 to 8. Refused: 1, 5, 6."""
+    return _rings("grow", level, rings, mask, out, work)
+
+
+def shrink(
+    level: int,
+    rings: int,
+    mask: ReadableBuffer,
+    out: WriteableBuffer | None = None,
+    work: WriteableBuffer | None = None,
+) -> WriteableBuffer:
+    """The mask of the cells from which every cell within `rings` touching steps is marked, 0 to 64;
+    `work` holds zeros afterwards. Level 0 to 8. Refused: 1, 5, 6."""
+    return _rings("shrink", level, rings, mask, out, work)
+
+
+def join(
+    level: int, a: ReadableBuffer, b: ReadableBuffer, out: WriteableBuffer | None = None
+) -> WriteableBuffer:
+    """The mask of the cells marked in either. Level 0 to 8. Refused: 1, 5."""
+    out = _like(a) if out is None else out
+    with _lend(_read("a", a), _read("b", b), _written("out", out)) as (first, second, third):
+        _call("join", _whole("level", level), *first, *second, *third)
+    return out
+
+
+def count(level: int, mask: ReadableBuffer) -> int:
+    """The number of marked cells. Level 0 to 8. Refused: 1, 5."""
+    number = c_uint32()
+    with _lend(_read("mask", mask)) as (a,):
+        _call("count", _whole("level", level), *a, byref(number))
+    return number.value
+
+
+def within(level: int, a: ReadableBuffer, b: ReadableBuffer) -> Within:
+    """Whether every cell marked in `a` is marked in `b`. Level 0 to 8. Refused: 1, 5."""
+    lacking = c_uint32()
+    with _lend(_read("a", a), _read("b", b)) as (first, second):
+        _call("within", _whole("level", level), *first, *second, byref(lacking))
+    return Within(None if lacking.value == _NO_CELL else lacking.value)
+
+
+def fill(
+    level: int, border: ReadableBuffer, outside: int, out: WriteableBuffer | None = None
+) -> WriteableBuffer:
+    """The mask of the cells that the outside cell can't reach by direct steps through unmarked
+    cells, so the border too. Level 0 to 8. Refused: 1, 4, 5, 8."""
+    out = _like(border) if out is None else out
+    with _lend(_read("border", border), _written("out", out)) as (a, b):
+        _call("fill", _whole("level", level), *a, _whole("outside", outside), *b)
+    return out
+
+
+# Charts.
+
+
+def reading(
+    level: int, cell: int, temperatures: ReadableBuffer, ages: ReadableBuffer
+) -> Reading:
+    """What a chart says of a cell. Level 0 to 8. Refused: 1, 4, 5."""
+    kind, temperature, days = c_uint32(), c_float(), c_uint32()
+    words = _whole("level", level), _whole("cell", cell)
+    with _lend(_read("temperatures", temperatures, _FLOATS), _read("ages", ages)) as (a, b):
+        _call("reading", *words, *a, *b, byref(kind), byref(temperature), byref(days))
+    if kind.value == 2:
+        return Reading(Kind.GAP, None, None)
+    return Reading((Kind.FRESH, Kind.CARRIED)[kind.value], temperature.value, days.value)
+
+
+def day(
+    level: int,
+    limit: int,
+    news: ReadableBuffer,
+    cloud: ReadableBuffer,
+    temperatures: WriteableBuffer,
+    ages: WriteableBuffer,
+) -> Summary:
+    """One day of a chart, `temperatures` and `ages`, which it rewrites: new temperatures, the mask
+    of the clouded cells, and for how many days, 0 to 30, a temperature is carried. Level 0 to 8.
+    Refused: 1, 5, 6."""
+    number, coldest, warmest = c_uint32(), c_float(), c_float()
+    lent = (
+        _read("news", news, _FLOATS),
+        _read("cloud", cloud),
+        _written("temperatures", temperatures, _FLOATS),
+        _written("ages", ages),
+    )
+    with _lend(*lent) as (a, b, c, d):
+        words = _whole("level", level), _whole("limit", limit), *a, *b, *c, *d
+        _call("day", *words, byref(number), byref(coldest), byref(warmest))
+    return Summary(number.value, coldest.value, warmest.value)

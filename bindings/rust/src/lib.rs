@@ -1,0 +1,77 @@
+//! Triangular cells of the globe, masks of cloud on them, and charts of sea temperature whose
+//! every temperature has its age: safe functions over the proved library `libticklocust.a`.
+//!
+//! Each function is one call of `include/ticklocust.h`, under its name there. It gives its answer
+//! or a [`Refusal`], which has the number of document 01's table; a refused call leaves every
+//! slice as it was. Nothing is taken from the heap and nothing is kept between calls, so threads
+//! may call at once, each with slices of its own.
+//!
+//! - Places: [`cell_at`] and [`centre`], with a [`Latitude`] and a [`Longitude`] that can't be
+//!   taken for one another; [`step`], [`code`] and [`touching`].
+//! - Borders in their stored form: [`border_read`] and [`border_write`].
+//! - Masks, byte slices with one bit a cell: [`grow`], [`shrink`], [`join`], [`count`], [`within`]
+//!   and [`fill`].
+//! - Charts, a slice of temperatures and one of ages: [`reading`] and [`day`].
+//!
+//! ```
+//! use ticklocust::{cell_at, centre, Latitude, Longitude};
+//!
+//! let cell = cell_at(1, Latitude(22_500_000), Longitude(30_000_000))?;
+//! assert_eq!(cell, 0);
+//! assert_eq!(centre(1, cell)?, (Latitude(30_000_000), Longitude(45_000_000)));
+//! # Ok::<(), ticklocust::Refusal>(())
+//! ```
+
+#![deny(missing_docs)]
+#![deny(unsafe_code)]
+
+mod borders;
+mod charts;
+mod masks;
+mod places;
+mod raw;
+mod refusal;
+
+pub use borders::{border_read, border_write, Border};
+pub use charts::{day, reading, Reading, Summary};
+pub use masks::{count, fill, grow, join, shrink, within, Within};
+pub use places::{cell_at, centre, code, step, touching, Latitude, Longitude, Touching, CODES};
+pub use refusal::Refusal;
+
+/// The highest level of cells and borders.
+pub const MAX_CELL_LEVEL: u32 = 14;
+/// The highest level of masks and charts.
+pub const MAX_MASK_LEVEL: u32 = 8;
+/// The most rings that a mask is grown or shrunk by.
+pub const MAX_RINGS: u32 = 64;
+/// The most days that a temperature is carried.
+pub const MAX_DAYS: u32 = 30;
+/// The most codes of a border.
+pub const MAX_CODES: usize = 4096;
+/// The most cells of a border, one more than its codes: a slice for [`border_read`].
+pub const MAX_BORDER_CELLS: usize = MAX_CODES + 1;
+/// The most bytes of a stored border: a slice for [`border_write`].
+pub const MAX_BORDER_BYTES: usize = 1544;
+
+/// The bytes of a mask of this level, 4^level; none above level 8.
+///
+/// ```
+/// assert_eq!(ticklocust::mask_len(5), Some(1024));
+/// assert_eq!(ticklocust::mask_len(9), None);
+/// ```
+#[must_use]
+pub fn mask_len(level: u32) -> Option<usize> {
+    (level <= MAX_MASK_LEVEL).then(|| 1 << (2 * level))
+}
+
+/// The cells of a chart of this level, 8 × 4^level; none above level 8. A chart has so many
+/// temperatures and so many ages.
+///
+/// ```
+/// assert_eq!(ticklocust::chart_len(0), Some(8));
+/// assert_eq!(ticklocust::chart_len(9), None);
+/// ```
+#[must_use]
+pub fn chart_len(level: u32) -> Option<usize> {
+    mask_len(level).map(|bytes| 8 * bytes)
+}
