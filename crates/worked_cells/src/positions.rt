@@ -1,8 +1,8 @@
 // Positions, the cells that hold them, and centres.
 use crate::address;
 use crate::print;
+use centre::CentreAnswer;
 use position::CellAnswer;
-use position::CentreAnswer;
 use position::Latitude;
 use position::Longitude;
 
@@ -116,7 +116,7 @@ fn show_centre(level: u32, cell: u32) {
     print::labelled(b"level ", level);
     print::labelled(b" centre of cell ", cell);
     print::text(b": ");
-    match position::centre_of(level, cell) {
+    match centre::centre_of(level, cell) {
         CentreAnswer::At(latitude, longitude) => print_position(latitude, longitude),
         CentreAnswer::Refused(n) => print::refused(n),
     }
