@@ -12,7 +12,8 @@ use Rattle.refusal.specs.Answer.{Answer, given, refused, Test, _when_, First, d
 use Rattle.refusal.specs.Tests.{badLevel, badLength}
 use Rattle.bitset.specs.Bits.{marked, bytesOf, size, outside}
 use Rattle.cell.specs.Cell.{Place, place, number, cells, maxLevel, badCell, badPlace, placeCall, numberCall}
-use Rattle.position.specs.Position.{placeAt, badLatitude, badLongitude, cellCall, centre, centreCall}
+use Rattle.position.specs.Position.{placeAt, badLatitude, badLongitude, cellCall}
+use Rattle.centre.specs.Centre.{centre, centreCall}
 use Rattle.step.specs.Step.{step, foundOr, codeTo, badStep, stepCall, codeCall}
 use Rattle.border.specs.Stored.{valueOf, codeBytes}
 use Rattle.border.specs.Border.{badCount, badNumber, levelRead, startRead, countRead, header, cellsOf, readBorder, anyFrom, codesOf, borderBytes, writeBorder}

@@ -11,7 +11,8 @@ use lib.Ieee.{Float}
 use Rattle.refusal.specs.Answer.{Answer, given, refused, done}
 use Rattle.bitset.specs.Bits.{Bytes, marked, size}
 use Rattle.cell.specs.Cell.{Frame, up, down, child, Place, place, Occurs, cells, maxLevel, placeCall, numberCall}
-use Rattle.position.specs.Position.{q, latitudeOut, longitudeOut, beginning, northOctant, offset, octant, Holds, cellCall, centreCall}
+use Rattle.position.specs.Position.{q, latitudeOut, longitudeOut, beginning, northOctant, offset, octant, Holds, cellCall}
+use Rattle.centre.specs.Centre.{centreCall}
 use Rattle.step.specs.Step.{across, east, west, stepCall, codeCall}
 use Rattle.step.specs.Neighbours.{back, direct, isDirect, Neighbours}
 use Rattle.varint.specs.Varint.{numeral, readCall, Exactly}

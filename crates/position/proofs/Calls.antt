@@ -1,5 +1,5 @@
--- What the two calls answer: the cell at a position holds it and no other cell of its octant does, south mirrors north, cells nest, and the cell
--- at a cell's centre is the cell. Laws of the call definitions, over every level that they accept.
+-- What the call answers: the cell at a position holds it and no other cell of its octant does, south mirrors north, and cells nest. Laws of the call
+-- definitions, over every level that they accept.
 -- Assumes nothing.
 use Prim.Native.Nat.{ℕ, suc, _+_, _*_, _-_, _/_, _^_, _≤_, _<_}
 use mathlib.Core.Bool.{false}
@@ -8,20 +8,14 @@ use mathlib.Core.Path.{_≡_, refl, sym, ap, ap₂, _∙_}
 use native.Mathlib.Nat.{add-mul}
 use native.Mathlib.Omega.{arith}
 use lib.IntN.{ℤ, pos, negsuc, natAbs}
-use lib.Pow.{pow-mono}
 use borrow.Author.Tests.{ltb-false, le-ltb}
 use Rattle.refusal.specs.Answer.{Test, given}
 use Rattle.refusal.specs.Tests.{badLevel}
 use Rattle.refusal.proofs.Answers.{passed, gives}
-use Rattle.cell.specs.Cell.{Frame, up, Place, place, number, maxLevel, cells}
+use Rattle.cell.specs.Cell.{Frame, up, Place, place, number, maxLevel}
 use Rattle.cell.proofs.Laws.{place-number, number-place}
-use Rattle.cell.proofs.Answers.{accepted, accepts}
 use Rattle.position.specs.Position.{q, latitudeOut, longitudeOut, octant, offset, Holds, placeAt, badLatitude, badLongitude, cellCall}
-use Rattle.position.specs.Position.{centre, centreCall}
 use Rattle.position.proofs.Laws.{holder-holds, holds-unique, frame-below, frame-pole, place-at-occurs, number-nested}
-use Rattle.position.proofs.Laws.{centre-latitude, centre-longitude, centre-return}
-
--- ---- the cell at a position
 
 -- the tests of the call
 abbrev tests : ℕ → ℤ → ℤ → List Test
@@ -90,33 +84,3 @@ answered-nested k y x n e =
     let a = answered (suc k) y x n e in
     let h : k ≤ maxLevel = omega (arith, a .level) in
     answers k y x h (a .latitude) (a .longitude) ∙ ap given (sym (number-nested k y x) ∙ ap (λ (i : ℕ). i / 4) (a .numbered))
-
--- ---- the centre of a cell
-
--- at every level that is not refused a row is at least six units of latitude
-level-small : (k : ℕ) → k ≤ maxLevel → 6 * 2 ^ k ≤ q
-level-small k h = omega (arith, pow-mono {i = k} {j = maxLevel} h)
-
--- a centre's latitude is neither 0 nor a pole
-pub centre-off-equator : (k n : ℕ) (c : ℤ × ℤ) → centreCall k n ≡ given c → (1 ≤ natAbs (c .0)) × (natAbs (c .0) < q)
-centre-off-equator k n c e =
-    let t = accepted k n (centre k (place k n)) c (sym e) in
-    rw (t .1) at (centre-latitude k (place k n) (level-small k (t .0 .level)) (t .0 .occurs))
-
--- the cell at the centre that a call gives is the number that it was given
-pub return-call : (k n : ℕ) (y x : ℤ) → centreCall k n ≡ given (y, x) → cellCall k y x ≡ given n
-return-call k n y x e =
-    let t = accepted k n (centre k (place k n)) (y, x) (sym e) in
-    let g = t .0 in
-    let hy = centre-off-equator k n (y, x) e .1 in
-    let hx : longitudeOut x ≡ false = rw (ap (λ (c : ℤ × ℤ). c .1) (t .1)) at (centre-longitude k (place k n) (g .occurs) .0) in
-    let r : placeAt k y x ≡ place k n =
-    ap (λ (c : ℤ × ℤ). placeAt k (c .0) (c .1)) (sym (t .1)) ∙ centre-return k (place k n) (level-small k (g .level)) (g .occurs) in
-    answers k y x (g .level) (le-ltb q (natAbs y) (omega arith)) hx ∙ ap given (ap (number k) r ∙ number-place k n)
-
--- and every number of a level that is not refused has a centre, and returns
-pub centre-returns : (k n : ℕ) → k ≤ maxLevel → n < cells k → (c : ℤ × ℤ) × (centreCall k n ≡ given c) × (cellCall k (c .0) (c .1) ≡ given n)
-centre-returns k n h l =
-    let c = centre k (place k n) in
-    let e = sym (accepts k n c h l) in
-    (c, e, return-call k n (c .0) (c .1) e)

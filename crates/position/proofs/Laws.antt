@@ -1,26 +1,23 @@
--- The laws of positions and centres, each once over the level k. They are what the crates above cite.
+-- The laws of positions, each once over the level k. They are what the crates above cite.
 -- Assumes nothing.
-use Prim.Native.Nat.{ℕ, zero, suc, _+_, _*_, _-_, _/_, _%_, _^_, _≤_, _<_}
+use Prim.Native.Nat.{ℕ, suc, _+_, _*_, _-_, _/_, _%_, _^_, _≤_, _<_}
 use mathlib.Core.Path.{_≡_, refl, sym, ap, ap₂, _∙_}
 use mathlib.Core.Bool.{Bool, true, false, cond}
-use native.Mathlib.Nat.{div-add-mod', mod-mod, mul-add-div-right, mul-add-mod-self-right, mul-div-mul-right, mod-eq-of-lt, mod-lt, div-lt-iff-lt-mul}
-use native.Mathlib.Nat.{mul-le-mul, mul-le-mul-left, mul-lt-mul-of-pos-left, mul-lt-mul-of-pos-right, lt-of-mul-lt-mul-right, mul-assoc}
-use native.Mathlib.Nat.{le-div-iff-mul-le, mul-div-le, lt-mul-div-succ, pow-suc}
+use native.Mathlib.Nat.{div-add-mod', mod-mod, mul-add-div-right, mul-add-mod-self-right, mul-div-mul-right, mod-eq-of-lt, mod-lt}
+use native.Mathlib.Nat.{mul-le-mul, mul-lt-mul-of-pos-left, mul-lt-mul-of-pos-right, lt-of-mul-lt-mul-right, mul-assoc, pow-suc}
 use native.Mathlib.Omega.{arith}
 use lib.Dec.{ltb, eqb}
 use lib.ListN.{getD}
 use lib.Arith.{digits-div, digits-mod, lt-of-le-ne}
-use lib.Pow.{pow-pos}
+use lib.Pow.{pow-pos, pow-mono}
 use lib.Signed.{ltZ}
-use lib.IntN.{ℤ, pos, negsuc, natAbs, negℤ, _+ℤ_, subℕ}
+use lib.IntN.{ℤ, pos, negsuc, natAbs, _+ℤ_, subℕ}
 use borrow.Author.Tests.{lt-ltb, le-ltb, lt-leb, ne-eqb, leb-false, ltb-true, ltb-false, eqb-true, eqb-false}
 use Rattle.refusal.proofs.Tests.{clash}
-use Rattle.cell.specs.Cell.{Frame, up, down, row, col, Place, Occurs, span, child, children, number, digits}
-use Rattle.cell.proofs.Laws.{digit-cases, as-child-child}
+use Rattle.cell.specs.Cell.{Frame, up, down, Occurs, span, child, children, number, digits, maxLevel}
+use Rattle.cell.proofs.Laws.{digit-cases, as-child-child, shifted}
 use Rattle.position.specs.Position.{q, latitudeOut, longitudeOut, beginnings, beginning, fromWest, northOctant, offset, octant}
 use Rattle.position.specs.Position.{scaledT, scaledR, Holds, holder, frameAt, placeAt, Nested}
-use Rattle.position.specs.Position.{thirds, centreP, centreM, latitudeOf, centre}
-use Rattle.position.specs.inside.Parts.{pOf, mOf}
 
 -- ---- longitudes
 
@@ -115,7 +112,7 @@ octant-below (negsuc n) x = omega (arith, north-octant-below x)
 -- ---- which frame holds a point (T, R) of units 1/Q
 
 -- what a frame holds, and the frame of the whole parts and what is left over: `Holds` and `holder` are these at Q = q²
-abbrev HoldsAt : ℕ → ℕ → ℕ → Frame → Type 0
+abbrev pub HoldsAt : ℕ → ℕ → ℕ → Frame → Type 0
 HoldsAt Q t r (up a b) = (a * Q ≤ t) × (b * Q ≤ r) × (t + r < (a + b + 1) * Q)
 HoldsAt Q t r (down a b) = (t < (a + 1) * Q) × (r < (b + 1) * Q) × ((a + b + 1) * Q ≤ t + r)
 
@@ -153,7 +150,7 @@ point-held Q t r h = by-rest (ltb (t % Q + r % Q) Q) refl
 
 -- ---- the cell answered holds the position, and no other frame does
 
-held-holds : (k p m : ℕ) (f : Frame) → HoldsAt (q * q) (scaledT k p) (scaledR k p m) f → Holds k p m f
+pub held-holds : (k p m : ℕ) (f : Frame) → HoldsAt (q * q) (scaledT k p) (scaledR k p m) f → Holds k p m f
 unfolding Holds
 held-holds k p m (up a b) h = omega arith
 held-holds k p m (down a b) h = omega arith
@@ -162,7 +159,7 @@ pub holder-holds : (k p m : ℕ) → Holds k p m (holder k p m)
 unfolding holder
 holder-holds k p m = held-holds k p m (holder k p m) (point-held (q * q) (scaledT k p) (scaledR k p m) (omega arith))
 
-holds-holder : (k p m : ℕ) (f : Frame) → Holds k p m f → f ≡ holder k p m
+pub holds-holder : (k p m : ℕ) (f : Frame) → Holds k p m f → f ≡ holder k p m
 unfolding Holds holder
 holds-holder k p m (up a b) h = point-unique (q * q) (scaledT k p) (scaledR k p m) (up a b) h
 holds-holder k p m (down a b) h = point-unique (q * q) (scaledT k p) (scaledR k p m) (down a b) h
@@ -230,14 +227,11 @@ share-whole n x w h = rw (digits-product n x w) (sym (mul-add-div-right (mul-le-
 pub share-rest : (n x w : ℕ) → (n * (x / w) % w * w + n * (x % w)) % (w * w) ≡ n * x % (w * w)
 share-rest n x w = rw (digits-product n x w) (sym (mul-add-mod-self-right _ (w * w) _))
 
--- x · y / d, by the whole part and the rest of y / d
-pub split-product : (x y d : ℕ) → 0 < d → x * (y / d) + x * (y % d) / d ≡ x * y / d
-split-product x y d h =
-    let e : x * (y / d * d + y % d) ≡ x * y = ap (λ (z : ℕ). x * z) (div-add-mod' y d) in
-    let f : x * y ≡ x * (y / d) * d + x * (y % d) = omega arith in
-    rw f (sym (mul-add-div-right h _ _))
-
 -- ---- the frame of a position, as the code computes it
+
+-- N as the code shifts it, and its bounds
+pub rows-shifted : (k : ℕ) → k ≤ maxLevel → let n = 1 * 2 ^ k % 2 ^ 64 in (n ≡ 2 ^ k) × (1 ≤ n) × (n ≤ 2 ^ maxLevel)
+rows-shifted k h = rw (shifted 64 k (omega arith)) (refl, pow-pos k, pow-mono {i = k} {j = maxLevel} h)
 
 -- T = x·w over w², x = N·p: its whole part and its rest
 row-whole : (x w : ℕ) → 0 < w → x * w / (w * w) ≡ x / w
@@ -257,162 +251,6 @@ module _ (k p m n : ℕ) (e : n ≡ 2 ^ k) where
       holder k p m ≡ cond (ltb (n * p % q * q + n * (m * (q - p)) % (q * q)) (q * q)) (up a b) (down a b)
   unfolding holder scaledT scaledR
   holder-at = rw (row-whole (2 ^ k * p) q (omega arith), row-rest (2 ^ k * p) q (omega arith), mul-assoc (2 ^ k) m (q - p), e)
-
--- ---- centres are positions below the pole, off the equator
-
--- p of x thirds of a row, x below 3N: its two bounds
-p-below : (w n x : ℕ) → 0 < w → 0 < n → x < 3 * n → w * x / (3 * n) < w
-p-below w n x hw hn h = div-lt-iff-lt-mul {k = 3 * n} (omega arith) .1 (mul-lt-mul-of-pos-left h hw)
-
-p-positive : (w n x : ℕ) → 0 < n → 3 * n ≤ w → 0 < x → 1 ≤ w * x / (3 * n)
-p-positive w n x hn hw h = le-div-iff-mul-le {k = 3 * n} (omega arith) .1 (omega (arith, mul-le-mul-left w h))
-
--- m of y thirds of a column is below a quarter, where x and y leave room for one another
-m-below : (n x y p d : ℕ) → 0 < n → 0 < d → 3 * n * p ≤ (p + d) * x → x + y < 3 * n → y * ((p + d) * (p + d)) / (3 * n * d) < p + d
-m-below n x y p d hn hd hp h =
-    let w = p + d in
-    let hw : 0 < w = omega arith in
-    let hD : 0 < 3 * n * d = omega (arith, mul-le-mul-left (3 * n) hd) in
-    let l : w * (x + y) < w * (3 * n) = mul-lt-mul-of-pos-left h hw in
-    let i : w * y < 3 * n * d = omega arith in
-    div-lt-iff-lt-mul {k = 3 * n * d} hD .1 (omega (arith, mul-lt-mul-of-pos-left i hw))
-
--- the whole parts, multiplied out: 3T is at most x·Q and less than half a unit below it
-record Near (Q t x : ℕ) : Type 0 where
-  top : 3 * t ≤ Q * x
-  bottom : 2 * (Q * x) < 6 * t + Q
-
--- T of the p that is rounded from x thirds, and R of the m that is rounded from y thirds
-p-near : (w n x : ℕ) → 0 < n → 6 * n ≤ w → Near (w * w) (n * (w * x / (3 * n)) * w) x
-p-near w n x hn hw =
-    let p = w * x / (3 * n) in
-    let h3 : 0 < 3 * n = omega arith in
-    let hw0 : 0 < w = omega arith in
-    let t = mul-le-mul-left w (mul-div-le (w * x) (3 * n)) in
-    let b = mul-lt-mul-of-pos-left (lt-mul-div-succ (w * x) h3) hw0 in
-    let r = mul-le-mul-left w hw in
-    record { top = omega arith; bottom = omega arith }
-
-m-near : (n y p d : ℕ) → 0 < n → 0 < d → 6 * n ≤ p + d → Near ((p + d) * (p + d)) (n * (y * ((p + d) * (p + d)) / (3 * n * d)) * d) y
-m-near n y p d hn hd hw =
-    let w = p + d in
-    let D = 3 * n * d in
-    let hD : 0 < D = omega (arith, mul-le-mul-left (3 * n) hd) in
-    let hdw : d ≤ w = omega arith in
-    let t = mul-div-le (y * (w * w)) D in
-    let b = lt-mul-div-succ (y * (w * w)) hD in
-    let r = mul-le-mul hw hdw in
-    record { top = omega arith; bottom = omega arith }
-
--- a point so near the middle of a frame lies in it
-near-frame : (Q t r : ℕ) (f : Frame) → 0 < Q → Near Q t (3 * row f + thirds f) → Near Q r (3 * col f + thirds f) → HoldsAt Q t r f
-unfolding row col thirds
-near-frame Q t r (up a b) h u v = omega arith
-near-frame Q t r (down a b) h u v = omega arith
-
--- the thirds of a frame that occurs leave room for one another, and are not 0
-thirds-fit : (n : ℕ) (f : Frame) → span f ≤ n → (3 * row f + thirds f) + (3 * col f + thirds f) < 3 * n
-unfolding row col thirds span
-thirds-fit n (up a b) h = omega arith
-thirds-fit n (down a b) h = omega arith
-
-thirds-positive : (f : Frame) → 0 < thirds f
-unfolding thirds
-thirds-positive (up a b) = omega arith
-thirds-positive (down a b) = omega arith
-
--- p and m of the centre that lies x thirds of a row and y thirds of a column in, at N = n
-module _ (n x y : ℕ) (hn : 0 < n) (h : x + y < 3 * n) where
-  pub p-of-below : pOf n x < q
-  p-of-below = p-below q n x (omega arith) hn (omega arith)
-
-  rounded : 3 * n * pOf n x ≤ q * x
-  rounded = mul-div-le (q * x) (3 * n)
-
-  p-and-rest : pOf n x + (q - pOf n x) ≡ q
-  p-and-rest = omega (arith, p-of-below)
-
-  pub m-of-below : mOf n y (pOf n x) < q
-  m-of-below = rw p-and-rest at (m-below n x y (pOf n x) (q - pOf n x) hn (omega (arith, p-of-below)) (rw p-and-rest rounded) h)
-
-  m-of-near : 6 * n ≤ q → Near (q * q) (n * mOf n y (pOf n x) * (q - pOf n x)) y
-  m-of-near hq = rw p-and-rest at (m-near n y (pOf n x) (q - pOf n x) hn (omega (arith, p-of-below)) (rw p-and-rest hq))
-
-pub centre-p-below : (k : ℕ) (f : Frame) → span f ≤ 2 ^ k → centreP k f < q
-unfolding centreP
-centre-p-below k f h = p-of-below (2 ^ k) (3 * row f + thirds f) (3 * col f + thirds f) (pow-pos k) (thirds-fit (2 ^ k) f h)
-
-pub centre-m-below : (k : ℕ) (f : Frame) → span f ≤ 2 ^ k → centreM k f < q
-unfolding centreP centreM
-centre-m-below k f h = m-of-below (2 ^ k) (3 * row f + thirds f) (3 * col f + thirds f) (pow-pos k) (thirds-fit (2 ^ k) f h)
-
-pub centre-p-positive : (k : ℕ) (f : Frame) → 6 * 2 ^ k ≤ q → 1 ≤ centreP k f
-unfolding centreP
-centre-p-positive k f h = p-positive q (2 ^ k) (3 * row f + thirds f) (pow-pos k) (omega arith) (omega (arith, thirds-positive f))
-
--- ---- the return: the cell at a cell's centre is the cell
-
-pub centre-held : (k : ℕ) (f : Frame) → 6 * 2 ^ k ≤ q → span f ≤ 2 ^ k → Holds k (centreP k f) (centreM k f) f
-unfolding scaledT scaledR centreP centreM
-centre-held k f hq h =
-    let x = 3 * row f + thirds f in
-    let y = 3 * col f + thirds f in
-    held-holds k (centreP k f) (centreM k f) f
-    (near-frame (q * q) (scaledT k (centreP k f)) (scaledR k (centreP k f) (centreM k f)) f (omega arith)
-    (p-near q (2 ^ k) x (pow-pos k) hq)
-    (m-of-near (2 ^ k) x y (pow-pos k) (thirds-fit (2 ^ k) f h) hq))
-
-centre-frame : (k : ℕ) (f : Frame) → 6 * 2 ^ k ≤ q → span f ≤ 2 ^ k → frameAt k (centreP k f) (centreM k f) ≡ f
-centre-frame k f hq h =
-    frame-below k (centreP k f) (centreM k f) (centre-p-below k f h) ∙ sym (holds-holder k (centreP k f) (centreM k f) f (centre-held k f hq h))
-
--- the latitude of size p of an octant below 8: its size, and the octant that its sign makes of the northern one
-latitude-size : (o p : ℕ) → natAbs (latitudeOf o p) ≡ p
-latitude-size o p = by-side (ltb o 4)
-  where
-    south : (n : ℕ) → natAbs (negℤ (pos n)) ≡ n
-    south zero = refl
-    south (suc n) = refl
-
-    by-side : (b : Bool) → natAbs (cond b (pos p) (negℤ (pos p))) ≡ p
-    by-side true = refl
-    by-side false = south p
-
-latitude-octant : (o p : ℕ) (x : ℤ) → o < 8 → 1 ≤ p → northOctant x ≡ o % 4 → octant (latitudeOf o p) x ≡ o
-latitude-octant o zero x ho hp e = absurd (omega arith)
-latitude-octant o (suc n) x ho hp e = by-side (ltb o 4) refl
-  where
-    south : octant (negsuc n) x ≡ northOctant x + 4
-    south = octant-south (negsuc n) x refl
-
-    north : octant (pos (suc n)) x ≡ northOctant x
-    north = octant-north (pos (suc n)) x (le-ltb (suc n) 0 (omega arith))
-
-    by-side : (b : Bool) → ltb o 4 ≡ b → octant (cond b (pos (suc n)) (negℤ (pos (suc n)))) x ≡ o
-    by-side true h = rw (north, e) (omega (arith, ltb-true o 4 h))
-    by-side false h = rw (south, e) (omega (arith, ltb-false o 4 h))
-
-pub centre-return : (k : ℕ) (c : Place) → 6 * 2 ^ k ≤ q → Occurs k c → placeAt k (centre k c .0) (centre k c .1) ≡ c
-unfolding placeAt centre
-centre-return k c hq h =
-    let p = centreP k (c .1) in
-    let m = centreM k (c .1) in
-    let hm = centre-m-below k (c .1) (h .1) in
-    let x = beginning (c .0) +ℤ pos m in
-    let o = latitude-octant (c .0) p x (h .0) (centre-p-positive k (c .1) hq) (beginning-octant (c .0) m hm) in
-    rw (o, latitude-size (c .0) p, beginning-offset (c .0) m hm, centre-frame k (c .1) hq (h .1))
-
--- ---- where centres lie: a centre's latitude is neither 0 nor a pole, and its longitude lies in its octant
-
-pub centre-latitude : (k : ℕ) (c : Place) → 6 * 2 ^ k ≤ q → Occurs k c → (1 ≤ natAbs (centre k c .0)) × (natAbs (centre k c .0) < q)
-unfolding centre
-centre-latitude k c hq h = rw (latitude-size (c .0) (centreP k (c .1))) (centre-p-positive k (c .1) hq, centre-p-below k (c .1) (h .1))
-
-pub centre-longitude : (k : ℕ) (c : Place) → Occurs k c → (longitudeOut (centre k c .1) ≡ false) × (northOctant (centre k c .1) ≡ c .0 % 4)
-unfolding centre
-centre-longitude k c h =
-    let hm = centre-m-below k (c .1) (h .1) in
-    (beginning-inside (c .0) (centreM k (c .1)) hm, beginning-octant (c .0) (centreM k (c .1)) hm)
 
 -- ---- nesting: the cells of a position at all levels
 

@@ -1,4 +1,4 @@
--- Positions and cells (document 01, "Position to cell" and "Cell to centre").
+-- Positions and cells (document 01, "Position to cell").
 -- Latitudes and longitudes are whole millionths of a degree. At level k, N is 2 ^ k.
 use Prim.Native.Nat.{ℕ, _+_, _*_, _-_, _/_, _%_, _^_, _≤_, _<_}
 use mathlib.Core.Bool.{Bool, cond}
@@ -9,17 +9,13 @@ use lib.IntN.{ℤ, pos, negsuc, natAbs, negℤ, _+ℤ_}
 use lib.ListN.{getD}
 use Rattle.refusal.specs.Answer.{Answer, given, refused, Test, _when_, inOrder}
 use Rattle.refusal.specs.Tests.{badLevel}
-use Rattle.cell.specs.Cell.{Frame, up, down, row, col, child, Place, place, number, maxLevel, cellTests}
+use Rattle.cell.specs.Cell.{Frame, up, down, child, Place, number, maxLevel}
 use Rattle.position.specs.declared.CellAnswer.{CellAnswer}
 use Rattle.position.specs.declared.CellAnswer.the-variants as cell-answer
-use Rattle.position.specs.declared.CentreAnswer.{CentreAnswer}
-use Rattle.position.specs.declared.CentreAnswer.the-variants as centre-answer
 
 -- a quarter of a turn
 abbrev pub q : ℕ
 q = 90000000
-
--- ---- position to cell
 
 -- latitude −q to q, longitude −2q to 2q−1
 abbrev pub latitudeOut : ℤ → Bool
@@ -98,39 +94,7 @@ pub record Nested (c d : Place) : Type 0 where
   pub below : digit < 4
   pub same : d ≡ (c .0, child (c .1) digit)
 
--- ---- cell to centre
-
--- the paper's s: 1 for up and 2 for down
-unfoldable pub thirds : Frame → ℕ
-thirds (up a b) = 1
-thirds (down a b) = 2
-
--- p is the whole part of q(3a+s)/(3N)
-unfoldable pub centreP : ℕ → Frame → ℕ
-centreP k f = q * (3 * row f + thirds f) / (3 * 2 ^ k)
-
--- m is the whole part of (3b+s)·q²/(3N(q−p))
-unfoldable pub centreM : ℕ → Frame → ℕ
-centreM k f = (3 * col f + thirds f) * (q * q) / (3 * 2 ^ k * (q - centreP k f))
-
--- the latitude of size p of an octant: p, in the south −p
-abbrev pub latitudeOf : ℕ → ℕ → ℤ
-latitudeOf o p = cond (ltb o 4) (pos p) (negℤ (pos p))
-
--- the centre's latitude is p, in the south −p; its longitude is the octant's beginning plus m
-unfoldable pub centre : ℕ → Place → ℤ × ℤ
-centre k c = (latitudeOf (c .0) (centreP k (c .1)), beginning (c .0) +ℤ pos (centreM k (c .1)))
-
--- centre of a cell: refused 1, 4
-abbrev pub centreCall : ℕ → ℕ → Answer (ℤ × ℤ)
-centreCall k n = inOrder (cellTests k n) (centre k (place k n))
-
--- ---- what the code's answers say
-
+-- what the code's answer says
 abbrev pub saidCell : CellAnswer → Answer ℕ
 saidCell (cell-answer.Number n) = given n
 saidCell (cell-answer.Refused n) = refused n
-
-abbrev pub saidCentre : CentreAnswer → Answer (ℤ × ℤ)
-saidCentre (centre-answer.At y x) = given (y .0, x .0)
-saidCentre (centre-answer.Refused n) = refused n

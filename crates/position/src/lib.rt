@@ -1,13 +1,11 @@
-// Positions and cells: document 01, "Position to cell" and "Cell to centre".
+// The cell at a position: document 01, "Position to cell".
 mod angle;
-mod centre;
 mod place;
 
 use cell::CellNumber;
 use cell::NumberAnswer;
-use cell::PlaceAnswer;
 ghost use mathlib.Core.Path.{_≡_};
-ghost use Rattle.position.specs.Position.{cellCall, centreCall, saidCell, saidCentre};
+ghost use Rattle.position.specs.Position.{cellCall, saidCell};
 
 // Whole millionths of a degree, north of the equator; in the south they are negative.
 pub struct Latitude(pub i32);
@@ -21,14 +19,8 @@ pub enum CellAnswer {
     Refused(u8),
 }
 
-// What is answered for a cell: its centre, or a refusal.
-pub enum CentreAnswer {
-    At(Latitude, Longitude),
-    Refused(u8),
-}
-
 // A quarter of a turn, the document's q.
-const QUARTER: u64 = 90_000_000;
+pub const QUARTER: u64 = 90_000_000;
 
 // The number of the cell at a position.
 pub fn cell_at(level: u32, latitude: Latitude, longitude: Longitude) -> CellAnswer
@@ -52,16 +44,5 @@ pub fn cell_at(level: u32, latitude: Latitude, longitude: Longitude) -> CellAnsw
     match answer {
         NumberAnswer::Number(n) => CellAnswer::Number(n),
         NumberAnswer::Refused(n) => CellAnswer::Refused(n),
-    }
-}
-
-// The centre of a cell.
-pub fn centre_of(level: u32, cell: CellNumber) -> CentreAnswer
-    ensures { λ r. ⌜ saidCentre r ≡ centreCall level cell ⌝ }
-{
-    let answer = cell::place_of(level, cell);
-    match answer {
-        PlaceAnswer::At(place) => centre::centre_at(level, place),
-        PlaceAnswer::Refused(n) => CentreAnswer::Refused(n),
     }
 }

@@ -8,10 +8,10 @@ ghost use Rattle.cell.specs.Cell.{placeOf, maxLevel};
 ghost use Rattle.position.specs.Position.{q, frameAt, holder};
 
 // The square of a quarter of a turn, in whose units T and R are whole.
-pub(crate) const SQUARE: u64 = QUARTER * QUARTER;
+const SQUARE: u64 = QUARTER * QUARTER;
 
 // The rows of an octant at a level, the document's N.
-pub(crate) fn rows_of(level: u32) -> u64
+fn rows_of(level: u32) -> u64
     requires { ⌜ level ≤ maxLevel ⌝ }
     ensures { λ r. ⌜ (r ≡ 2 ^ level) × (1 ≤ r) × (r ≤ 2 ^ maxLevel) ⌝ }
 {

@@ -6,10 +6,11 @@ mod masks;
 mod steps;
 
 ghost use mathlib.Core.Path.{_≡_};
-ghost use Rattle.position.specs.Position.{cellCall, centreCall};
+ghost use Rattle.position.specs.Position.{cellCall};
+ghost use Rattle.centre.specs.Centre.{centreCall};
 ghost use Rattle.ticklocust.specs.Interface.{told};
+use centre::CentreAnswer;
 use position::CellAnswer;
-use position::CentreAnswer;
 use position::Latitude;
 use position::Longitude;
 
@@ -41,7 +42,7 @@ pub extern "C" fn ticklocust_centre(
     ensures { λ r. ⌜ (r, (now (latitude .exit), now (longitude .exit)))
         ≡ told (centreCall level cell) (now (latitude .entry), now (longitude .entry)) ⌝ }
 {
-    match position::centre_of(level, cell) {
+    match centre::centre_of(level, cell) {
         CentreAnswer::At(north, east) => {
             let y = north.0;
             let x = east.0;

@@ -1,7 +1,7 @@
 // Positions, the cells that hold them, and centres.
+use centre::CentreAnswer;
 use lines::address;
 use position::CellAnswer;
-use position::CentreAnswer;
 use position::Latitude;
 use position::Longitude;
 
@@ -135,7 +135,7 @@ fn print_number(level: u32, cell: u32) {
 
 fn show_centre(level: u32, cell: u32) {
     lines::two(b"level % centre of cell %: ", level, cell);
-    match position::centre_of(level, cell) {
+    match centre::centre_of(level, cell) {
         CentreAnswer::At(latitude, longitude) => {
             print_position(latitude, longitude);
             lines::byte(b'\n');

@@ -3,7 +3,7 @@
 use mathlib.Core.Path.{refl}
 use Rattle.cell.specs.Cell.{row, col, children, child, frame, span, place, parents, parities, asChild, digits, number}
 use Rattle.position.specs.Position.{beginning, fromWest, northOctant, offset, octant, scaledT, scaledR, holder, frameAt, placeAt}
-use Rattle.position.specs.Position.{thirds, centreP, centreM, centre}
+use Rattle.centre.specs.Centre.{thirds, centreP, centreM, centre}
 use Rattle.step.specs.Step.{across, east, west, steps, step, firstTrue, codeTo}
 use Rattle.step.specs.Neighbours.{direct, directCode, isDirect}
 use Rattle.bitset.specs.Bits.{bit, marked, bitsOf, bytesOf, outside}

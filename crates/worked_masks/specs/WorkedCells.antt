@@ -5,7 +5,8 @@ use mathlib.Core.List.{List, [], _∷_}
 use lib.IntN.{pos, negℤ}
 use Rattle.refusal.specs.Answer.{given}
 use Rattle.cell.specs.Cell.{up, down, placeCall}
-use Rattle.position.specs.Position.{cellCall, centreCall}
+use Rattle.position.specs.Position.{cellCall}
+use Rattle.centre.specs.Centre.{centreCall}
 use Rattle.step.specs.Step.{stepCall}
 use Rattle.grow.specs.Grow.{growCall, shrinkCall}
 use Rattle.fill.specs.Fill.{fillCall}

@@ -2,7 +2,7 @@
 use mathlib.Core.Path.{refl, _∙_, ap₂}
 use lib.IntN.{ℤ}
 use borrow.Author.Needs.{needs}
-use Rattle.position.specs.Position.{saidCentre}
+use Rattle.centre.specs.Centre.{saidCentre}
 use Rattle.ticklocust.proofs.Told.{value-refused, value-told}
 use Rattle.ticklocust.proofs.ticklocust_centre.Statement.{statement}
 use Rattle.ticklocust.proofs.ticklocust_centre.Tie as tie

@@ -1,0 +1,67 @@
+// Centres of cells, which lie thirds of a row and of a column in: document 01, "Cell to centre".
+use crate::CentreAnswer;
+use crate::angle;
+use cell::Kind;
+use cell::Place;
+use position::QUARTER;
+ghost use mathlib.Core.Path.{_≡_};
+ghost use Prim.Native.Nat.{_+_, _*_, _/_, _^_, _<_, _≤_};
+ghost use lib.IntN.{pos, _+ℤ_};
+ghost use Rattle.refusal.specs.Answer.{given};
+ghost use Rattle.cell.specs.Cell.{Occurs, placeOf, maxLevel};
+ghost use Rattle.position.specs.Position.{q, beginning};
+ghost use Rattle.centre.specs.Centre.{latitudeOf, centre, saidCentre};
+ghost use Rattle.centre.specs.inside.Parts.{pOf, mOf};
+
+// The square of a quarter of a turn.
+const SQUARE: u64 = QUARTER * QUARTER;
+
+// The size p of a centre's latitude, q · thirds / 3N, where an octant has `parts` = 3N thirds of a row.
+fn centre_p(thirds: u64, parts: u64) -> u64
+    requires { ⌜ (thirds < parts) × (parts ≤ 3 * 2 ^ maxLevel) ⌝ }
+    ensures { λ r. ⌜ r ≡ q * thirds / parts ⌝ }
+{
+    QUARTER * thirds / parts
+}
+
+// The offset m of a centre's longitude, thirds · q² / width: by the whole part and the rest of q² / width, as the product itself can pass 64 bits.
+fn centre_m(thirds: u64, width: u64) -> u64
+    requires { ⌜ (thirds ≤ 3 * 2 ^ maxLevel) × (0 < width) × (thirds ≤ width) × (width ≤ 3 * 2 ^ maxLevel * q) ⌝ }
+    ensures { λ r. ⌜ r ≡ thirds * (q * q) / width ⌝ }
+{
+    thirds * (SQUARE / width) + thirds * (SQUARE % width) / width
+}
+
+// The centre of a cell by its row, its column and the document's s.
+fn centre_by(level: u32, octant: u32, row: u64, col: u64, s: u64) -> CentreAnswer
+    requires { ⌜ (level ≤ maxLevel) × (1 ≤ s) × (row + col + s ≤ 2 ^ level) ⌝ }
+    ensures { λ r.
+        let p = pOf (2 ^ level) (3 * row + s) in
+        ⌜ saidCentre r ≡ given (latitudeOf octant p, beginning octant +ℤ pos (mOf (2 ^ level) (3 * col + s) p)) ⌝ }
+{
+    let parts = 3 * (1 << level);
+    let above = 3 * row + s;
+    let beside = 3 * col + s;
+    let p = centre_p(above, parts);
+    let width = parts * (QUARTER - p);
+    let m = centre_m(beside, width);
+    CentreAnswer::At(
+        angle::latitude_of(octant, p),
+        angle::longitude_of(octant, m),
+    )
+}
+
+// The centre of a place that occurs.
+pub(crate) fn centre_at(level: u32, place: Place) -> CentreAnswer
+    requires { ⌜ (level ≤ maxLevel) × Occurs level (placeOf place) ⌝ }
+    ensures { λ r. ⌜ saidCentre r ≡ given (centre level (placeOf place)) ⌝ }
+{
+    let octant = place.octant;
+    let kind = place.kind;
+    let row = place.row as u64;
+    let col = place.col as u64;
+    match kind {
+        Kind::Up => centre_by(level, octant, row, col, 1),
+        Kind::Down => centre_by(level, octant, row, col, 2),
+    }
+}
