@@ -8,10 +8,10 @@ use native.Mathlib.Nat.{le-antisymm, le-of-eq, le-trans}
 use native.Mathlib.Omega.{arith}
 use borrow.Author.Tests.{leb-true}
 use lib.Dec.{leb}
-use Rattle.refusal.specs.Answer.{given, Test, _when_, inOrder, lending, First}
+use Rattle.refusal.specs.Answer.{Answer, given, Test, _when_, inOrder, lending, First}
 use Rattle.refusal.proofs.Answers.{Passed, gives, passed, refuses, first}
 use Rattle.refusal.proofs.Tests.{clash, parts}
-use Rattle.demands.specs.Demand1.{Applies, Lowest, ByTests, LentByTests, InOrder, Demand1}
+use Rattle.demands.specs.Demand1.{Applies, Lowest, ByTests, Lends, LentByTests, InOrder, Demand1}
 
 -- the numbers of a list of tests rise from m on
 rises : ℕ → List Test → Bool
@@ -83,20 +83,18 @@ by-tests ts a r = record {
   gives = given-exactly ts a;
 }
 
+lends : {A S : Type 0} (answer : Answer A) (a : A) (before after : S) → Lends (lending answer before after) a before after
+lends answer a before after = record { leaves = λ n e. rw e; writes = λ e. rw e }
+
 lent-by-tests : {A S : Type 0} (ts : List Test) (a : A) (before after : S) → rises 0 ts ≡ true →
     LentByTests ts (lending (inOrder ts a) before after) a before after
-lent-by-tests ts a before after r = record {
-  answers = by-tests ts a r;
-  leaves = λ n e. rw e;
-  writes = λ e. rw e;
-}
+lent-by-tests ts a before after r = record { answers = by-tests ts a r; slices = lends (inOrder ts a) a before after }
 
 in-order : {A S : Type 0} (ts : List Test) (a : A) (before after : S) → InOrder ts (lending (inOrder ts a) before after) a before after
 in-order ts a before after = record {
   refuses = λ n. ((λ e. first ts a n (sym e)), (λ f. sym (refuses ts a n f)));
   gives = given-exactly ts a;
-  leaves = λ n e. rw e;
-  writes = λ e. rw e;
+  slices = lends (inOrder ts a) a before after;
 }
 
 pub demand-1 : Demand1

@@ -42,20 +42,23 @@ pub record ByTests {A : Type 0} (ts : List Test) (answer : Answer A) (value : A)
   -- and gives its value exactly when none applies
   pub gives : (answer ≡ given value) ↔ ((n : ℕ) → Applies n ts → ⊥)
 
--- and so does a call that is lent slices, which hold `before` when it is made
-pub record LentByTests {A S : Type 0} (ts : List Test) (result : Answer A × S) (value : A) (before after : S) : Type 0 where
-  pub answers : ByTests ts (result .0) value
+-- what a call leaves in the slices that it is lent, which hold `before` when it is made
+pub record Lends {A S : Type 0} (result : Answer A × S) (value : A) (before after : S) : Type 0 where
   -- a refused one leaves every lent slice as it was
   pub leaves : (n : ℕ) → result .0 ≡ refused n → result .1 ≡ before
   -- one that is not refused writes them
   pub writes : result .0 ≡ given value → result .1 ≡ after
 
+-- a call that is lent slices answers by its tests
+pub record LentByTests {A S : Type 0} (ts : List Test) (result : Answer A × S) (value : A) (before after : S) : Type 0 where
+  pub answers : ByTests ts (result .0) value
+  pub slices : Lends result value before after
+
 -- where the paper gives another order: it is refused by the first of its tests that applies, and gives its value exactly when none does
 pub record InOrder {A S : Type 0} (ts : List Test) (result : Answer A × S) (value : A) (before after : S) : Type 0 where
   pub refuses : (n : ℕ) → (result .0 ≡ refused n) ↔ First n ts
   pub gives : (result .0 ≡ given value) ↔ ((n : ℕ) → Applies n ts → ⊥)
-  pub leaves : (n : ℕ) → result .0 ≡ refused n → result .1 ≡ before
-  pub writes : result .0 ≡ given value → result .1 ≡ after
+  pub slices : Lends result value before after
 
 -- Demand 1, call by call: the tests, each under its number, are those that document 01's table gives the call
 pub record Demand1 : Type 0 where

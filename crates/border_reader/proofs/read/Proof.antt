@@ -23,7 +23,9 @@ read-codes-requires c κs =
     subst (Sound _) (h .header .given .1) (h .before .before .read-header .ensures .1)
 
 returns : tie.Need-returns
-returns c = header-refused _ _ _ (sym (ap saidHeader (c .before .n .given .1)) ∙ c .before .before .before .read-header .ensures .0)
+returns c =
+    let a = c .before .before .before .before .before .before .args in
+    header-refused (a .bytes .now) (a .cells .now) _ (sym (ap saidHeader (c .before .n .given .1)) ∙ c .before .before .before .read-header .ensures .0)
 
 same-length : tie.Need-same-length
 same-length c = search needs

@@ -1,5 +1,6 @@
 -- `code_at` meets its contract: a code lies in two bytes. Assumes nothing.
-use Prim.Native.Nat.{ℕ, _<_}
+use Prim.Native.Nat.{ℕ, _+_, _*_, _/_, _%_, _^_, _<_}
+use mathlib.Core.Path.{_≡_, ap₂, _∙_}
 use borrow.Author.Needs.{needs}
 use native.Mathlib.Omega.{arith}
 use lib.ListN.{getD}
@@ -16,6 +17,17 @@ first c = rw (c .before .byte-at .ensures) (below-256 c _)
 
 second : (c : tie.After-byte-at2) → c .byte-at2 .result < 256
 second c = rw (c .byte-at2 .ensures) (below-256 c _)
+
+-- and which bytes they are
+first-told : (c : tie.After-byte-at2) →
+    let a = c .before .before .before .args in
+    c .before .byte-at .result ≡ getD (a .bytes .now) (3 * a .i / 8) 0
+first-told c = c .before .byte-at .ensures
+
+second-told : (c : tie.After-byte-at2) →
+    let a = c .before .before .before .args in
+    c .byte-at2 .result ≡ getD (a .bytes .now) (3 * a .i / 8 + 1) 0
+second-told c = c .byte-at2 .ensures
 
 mul-bit : tie.Need-mul-bit
 mul-bit c = search needs
@@ -47,7 +59,8 @@ cast-result-2 c = search needs
 returns : tie.Need-returns
 returns c =
     let a = c .before .before .before .args in
-    rw (c .before .byte-at .ensures, c .byte-at2 .ensures) (code-in (a .bytes .now) (a .i) (below-256 c))
+    ap₂ (λ (x y : ℕ). (x + 256 * y) / 2 ^ (3 * a .i % 8) % 8) (first-told c) (second-told c)
+    ∙ code-in (a .bytes .now) (a .i) (below-256 c)
 
 pub code-at-spec : {M : Type 1} → statement M
 code-at-spec =

@@ -1,10 +1,10 @@
 -- `pack` meets its contract. The invariant: the codes that are left, after the bits that fill no byte yet, put into the slice as it is from `place` on,
 -- make the slice that is asked for. The measure is how many codes are left. Assumes nothing.
-use Prim.Native.Nat.{_*_, _-_, _%_, _^_, _<_}
+use Prim.Native.Nat.{_+_, _*_, _-_, _%_, _^_, _<_}
 use mathlib.Core.Path.{_≡_, sym}
 use mathlib.Core.Logic.{⊎-elim}
 use native.Mathlib.Omega.{arith}
-use lib.ListN.{length, getD, length-set}
+use lib.ListN.{length, getD, set, length-set}
 use Rattle.border_writer.proofs.Packing.{Packing, packing-none, packing-held, packing-shift, packing-stay, packing-put, packing-last, packing-done}
 use Rattle.border_writer.proofs.codes.pack.Statement.{statement}
 use Rattle.border_writer.proofs.codes.pack.Tie as tie
@@ -55,13 +55,15 @@ loop-less c = omega arith
 loop-again : tie.Need-loop-again Inv-loop μ-loop
 loop-again c =
     let k = c .before in
-    let inv = k .before .before .loop .inv in
-    let l = packing-shift _ _ _ _ _ _ _ _ inv _ (code k) in
-    let s : getD (k .before .before .before .args .codes .now) (k .before .before .loop .i) 0 * 2 ^ k .before .before .loop .bits % 2 ^ 32
-    ≡ getD (k .before .before .before .args .codes .now) (k .before .before .loop .i) 0 * 2 ^ k .before .before .loop .bits = omega arith in
+    let l = k .before .before .loop in
+    let x = getD (k .before .before .before .args .codes .now) (l .i) 0 in
+    let small = packing-shift _ _ _ _ _ _ _ _ (l .inv) _ (code k) in
+    let s : x * 2 ^ l .bits % 2 ^ 32 ≡ x * 2 ^ l .bits = omega arith in
     ⊎-elim
-    (λ w. rw (w .1, w .2, w .3, w .4, s) (packing-put _ _ _ _ _ _ _ _ inv (omega arith) (k .before .before .before .pre .0) (omega arith)))
-    (λ w. rw (w .1, w .2, w .3, w .4, s) (packing-stay _ _ _ _ _ _ _ _ inv (omega arith) (k .before .before .before .pre .0) (omega arith)))
+    (λ w.
+    let put : c .if1 .out ≡ set (l .out) (l .place) ((l .held + x * 2 ^ l .bits % 2 ^ 32) % 256) = w .1 in
+    rw (put, w .2, w .3, w .4, s) (packing-put _ _ _ _ _ _ _ _ (l .inv) (omega arith) (k .before .before .before .pre .0) (omega arith)))
+    (λ w. rw (w .1, w .2, w .3, w .4, s) (packing-stay _ _ _ _ _ _ _ _ (l .inv) (omega arith) (k .before .before .before .pre .0) (omega arith)))
     (c .if1 .came)
 
 cast-out-2 : tie.Need-cast-out-2 Inv-loop μ-loop

@@ -5,8 +5,8 @@ use mathlib.Core.Bool.{false≢true}
 use mathlib.Core.List.{[]}
 use native.Mathlib.Omega.{arith}
 use borrow.Author.Needs.{needs}
-use lib.ListN.{length, take, length-set, drop-of-length-le}
-use Rattle.step.specs.Step.{foundOr, saidCode}
+use lib.ListN.{length, take, getD, length-set, drop-of-length-le}
+use Rattle.step.specs.Step.{foundOr, codeCall, saidCode}
 use Rattle.border.specs.Stored.{found}
 use Rattle.border_writer.proofs.Writing.{Joined, none-joined, one-joined, not-joined, all-joined}
 use Rattle.border_writer.proofs.parts.find_codes.Statement.{statement}
@@ -49,10 +49,17 @@ enum-told c = search needs
 same-length : tie.Need-same-length Inv-loop μ-loop
 same-length c = c .before .before .before .before .before .before .loop .inv .1
 
+-- what the call answers of the next two cells
+told : (s : tie.After-code-between Inv-loop μ-loop) →
+    let l = s .before .before .before .before .loop in
+    let a = s .before .before .before .before .before .before .before .args in
+    codeCall (a .level) (getD (a .cells .now) (l .i) 0) (getD (a .cells .now) (l .i + 1) 0) ≡ saidCode (s .code-between .result)
+told s = sym (s .code-between .ensures)
+
 returns : tie.Need-returns Inv-loop μ-loop
 returns c =
     let l = c .before .before .before .before .before .before .loop in
-    let none = not-joined _ _ _ _ (l .inv .2) (omega arith) _ (sym (c .before .before .code-between .ensures) ∙ ap saidCode (c .enum-told .given .1)) in
+    let none = not-joined _ _ _ _ (l .inv .2) (omega arith) _ (told (c .before .before) ∙ ap saidCode (c .enum-told .given .1)) in
     (sym (ap found none), λ t. absurd (false≢true t))
 
 enum-known-code : tie.Need-enum-known-code Inv-loop μ-loop
@@ -73,7 +80,7 @@ loop-again c =
       omega arith,
       simp length-set (l .inv .1),
       one-joined _ _ _ _ (l .inv .2) (omega arith) _
-          (sym (c .before .before .before .code-between .ensures) ∙ ap saidCode (c .before .code .given .1)) (omega arith),
+          (told (c .before .before .before) ∙ ap saidCode (c .before .code .given .1)) (omega arith),
     )
 
 same-length-2 : tie.Need-same-length-2 Inv-loop μ-loop

@@ -1,7 +1,10 @@
 -- `put` meets its contract: where there is room, the parts are put one after another. Assumes nothing.
-use Prim.Native.Nat.{_+_, _≤_}
+use Prim.Native.Nat.{ℕ, _+_, _≤_}
+use mathlib.Core.List.{List}
+use mathlib.Core.Path.{refl, ap₂, _∙_}
 use native.Mathlib.Omega.{arith}
 use lib.ListN.{length}
+use Rattle.refusal.specs.Answer.{given}
 use Rattle.varint.proofs.Laws.{numeral-length}
 use Rattle.border_writer.proofs.Writing.{no-room, border-put}
 use borrow.Author.Needs.{needs}
@@ -59,10 +62,7 @@ write-number-requires-3 : tie.Need-write-number-requires-3
 write-number-requires-3 c κs = search needs
 
 pack-requires : tie.Need-pack-requires
-pack-requires c κs = search needs
-
-cast-t25 : tie.Need-cast-t25
-cast-t25 c = omega (arith, short (c .before .before .before .before .before .before .before .before .before .before .before .before .before .before .before .before .before))
+pack-requires c κs = (search needs, omega arith)
 
 same-length : tie.Need-same-length
 same-length c = search needs
@@ -71,12 +71,17 @@ returns-2 : tie.Need-returns-2
 returns-2 c =
     let s = c .before .before .before .before .before .before .before .before .before .before .before .before .before .before .before .before .before in
     let a = s .before .before .before .before .before .args in
-    border-put (a .level) (a .start) (a .codes .now) (a .out .now) _ _ _ _ _ _ _ _ _ _
+    ap₂ (λ (m : ℕ) (o : List ℕ). (given m, o)) (omega arith) refl
+    ∙ border-put (a .level) (a .start) (a .codes .now) (a .out .now) _ _ _ _ _ _ _ _ _ _
     (s .before .before .number-length .ensures) (omega arith) (omega arith) (omega arith)
     (c .before .before .before .before .before .before .before .before .before .before .before .before .before .before .write-number .ensures)
     (c .before .before .before .before .before .before .before .before .before .before .write-number2 .ensures)
     (c .before .before .before .before .before .before .write-number3 .ensures)
     (c .before .before .pack .ensures)
+
+-- the length is below 2^32
+cast-t25 : tie.Need-cast-t25
+cast-t25 c = omega (arith, short (c .before .before .before .before .before .before .before .before .before .before .before .before .before .before .before .before .before))
 
 pub put-spec : {M : Type 1} → statement M
 put-spec =

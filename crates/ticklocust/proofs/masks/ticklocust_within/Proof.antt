@@ -23,7 +23,8 @@ cast-result : tie.Need-cast-result
 cast-result c = search needs
 
 returns : tie.Need-returns
-returns c = form-told saidWithin lackingCell _ _ _ (c .before .before .within .ensures) (c .enum-told .given .1) _ _ refl
+returns c =
+    form-told saidWithin lackingCell _ _ _ (c .before .before .within .ensures) (c .enum-told .given .1) _ (c .before .before .before .before .before .args .lacking .now) refl
 
 returns-2 : tie.Need-returns-2
 returns-2 c = form-told saidWithin lackingCell _ _ _ (c .before .before .before .within .ensures) (c .before .cell .given .1) _ _ refl

@@ -22,7 +22,8 @@ cast-result : tie.Need-cast-result
 cast-result c = search needs
 
 returns : tie.Need-returns
-returns c = value-told saidCode _ _ _ (c .before .before .before .code-between .ensures) (c .before .c .given .1) _ _ refl
+returns c =
+    value-told saidCode _ _ _ (c .before .before .before .code-between .ensures) (c .before .c .given .1) _ (c .before .before .before .before .args .code .now) refl
 
 returns-2 : tie.Need-returns-2
 returns-2 c = value-refused saidCode _ _ _ (c .before .before .before .code-between .ensures) (c .before .n .given .1) _ _ refl
