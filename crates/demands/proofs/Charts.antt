@@ -16,11 +16,11 @@ use Rattle.bitset.proofs.Laws.{size-cong}
 use Rattle.cell.specs.Cell.{cells}
 use Rattle.mask.specs.Mask.{maxMaskLevel}
 use Rattle.chart.specs.Chart.{inRange, fresh, carried, temperatureAt, ageAt, readingTests, readingAt, readingCall}
-use Rattle.chart.specs.Day.{nought, temperaturesAfter, agesAfter, readsAfter, Summary, Foremost, Coldest, Warmest, dayTests, summaryAfter, dayCall}
+use Rattle.day.specs.Day.{nought, temperaturesAfter, agesAfter, readsAfter, Summary, Foremost, Coldest, Warmest, dayTests, summaryAfter, dayCall}
 use Rattle.demands.specs.Demand2.{answersFresh}
-use Rattle.chart.proofs.Days.{length-listOf}
-use Rattle.chart.proofs.DayLaws.{fresh-after, carried-after, count-after}
-use Rattle.chart.proofs.Bounds.{coldest-after, warmest-after, none-after}
+use Rattle.day.proofs.Days.{length-listOf}
+use Rattle.day.proofs.DayLaws.{fresh-after, carried-after, count-after}
+use Rattle.day.proofs.Bounds.{coldest-after, warmest-after, none-after}
 
 module _ (k d : ℕ) (new : List Float) (clouds : List ℕ) (temps : List Float) (ages : List ℕ) (s : Summary)
     (accepted : dayCall k d new clouds temps ages .0 ≡ given s) where

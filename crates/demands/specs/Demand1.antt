@@ -23,7 +23,7 @@ use Rattle.mask.specs.Mask.{maxMaskLevel, maskCall, countCall, union, joinCall,
 use Rattle.grow.specs.Grow.{badRings, grownCells, shrunkCells, growCall, shrinkCall}
 use Rattle.fill.specs.Fill.{reachable, badOutside, fillCall}
 use Rattle.chart.specs.Chart.{readingAt, readingCall}
-use Rattle.chart.specs.Day.{temperaturesAfter, agesAfter, summaryAfter, badDays, dayCall}
+use Rattle.day.specs.Day.{temperaturesAfter, agesAfter, summaryAfter, badDays, dayCall}
 
 -- a test with the number n applies
 abbrev pub Applies : ℕ → List Test → Type 0

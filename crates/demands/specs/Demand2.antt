@@ -21,7 +21,7 @@ use Rattle.corner.specs.Corner.{Point, norm, corners, touchCall}
 use Rattle.touch.specs.Touch.{rising, indirect, CornerCell, cellsAt, Tip, unused, listCall}
 use Rattle.fill.specs.Fill.{Reachable, fillCall}
 use Rattle.chart.specs.Chart.{inRange, Reading, fresh, carried, temperatureAt, ageAt, readingCall}
-use Rattle.chart.specs.Day.{nought, Summary, isFresh, Coldest, Warmest, dayCall}
+use Rattle.day.specs.Day.{nought, Summary, isFresh, Coldest, Warmest, dayCall}
 
 -- ---- the steps inside an octant, line by line
 

@@ -1,10 +1,10 @@
 // Charts: the reading of a cell and one day.
 ghost use mathlib.Core.Path.{_≡_};
 ghost use Rattle.chart.specs.Chart.{readingCall};
-ghost use Rattle.chart.specs.Day.{dayCall};
+ghost use Rattle.day.specs.Day.{dayCall};
 ghost use Rattle.ticklocust.specs.Interface.{told, toldLent, inC, kindTemperatureDays};
-use chart::DayAnswer;
 use chart::ReadingAnswer;
+use day::DayAnswer;
 
 const FRESH: u32 = 0;
 
@@ -65,7 +65,7 @@ pub extern "C" fn ticklocust_day(
         ≡ toldLent (dayCall level limit (now (news .entry)) (now (cloud .entry)) (now (temperatures .entry)) (now (ages .entry)))
         (now (count .entry), now (coldest .entry), now (warmest .entry)) ⌝ }
 {
-    match chart::day(level, limit, news, cloud, temperatures, ages) {
+    match day::day(level, limit, news, cloud, temperatures, ages) {
         DayAnswer::Summed(summary) => {
             *count = summary.count;
             *coldest = summary.coldest;

@@ -1,8 +1,8 @@
 // Days on whole charts: the new temperatures and the cloud mask, the answer, and what the chart's two slices then hold. A refused day leaves them.
 use crate::print;
 use crate::values;
-use chart::DayAnswer;
-use chart::Summary;
+use day::DayAnswer;
+use day::Summary;
 
 pub fn show() {
     show_summaries();
@@ -93,7 +93,7 @@ fn show_day(
 ) {
     lines::two(b"level % limit %", level, limit);
     print_sky(new, clouds);
-    print_answer(chart::day(level, limit, new, clouds, temperatures, ages));
+    print_answer(day::day(level, limit, new, clouds, temperatures, ages));
     print::slices(temperatures, ages);
     lines::byte(b'\n');
 }

@@ -60,6 +60,6 @@ fn show_day(limit: u32, clouds: u8, new: f32, old: f32, age: u8) {
 fn show_after(limit: u32, clouds: u8, new: f32, old: f32, age: u8) {
     let mut temperatures = [old; 8];
     let mut ages = [age; 8];
-    chart::day(0, limit, &[new; 8], &[clouds], &mut temperatures, &mut ages);
+    day::day(0, limit, &[new; 8], &[clouds], &mut temperatures, &mut ages);
     readings::show_reading(temperatures[3], ages[3]);
 }

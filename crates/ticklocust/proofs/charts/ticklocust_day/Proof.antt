@@ -1,7 +1,7 @@
 -- `ticklocust_day` meets its contract. Assumes nothing.
 use mathlib.Core.Path.{refl}
 use borrow.Author.Needs.{needs}
-use Rattle.chart.specs.Day.{saidDay}
+use Rattle.day.specs.Day.{saidDay}
 use Rattle.ticklocust.proofs.Told.{lent-refused, lent-told}
 use Rattle.ticklocust.proofs.charts.ticklocust_day.Statement.{statement}
 use Rattle.ticklocust.proofs.charts.ticklocust_day.Tie as tie

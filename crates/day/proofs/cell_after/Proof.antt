@@ -9,11 +9,11 @@ use borrow.Author.Tests.{le-leb, lt-leb}
 use lib.Dec.{leb}
 use lib.Ieee as Ieee
 use Rattle.refusal.proofs.Tests.{both}
 use Rattle.chart.specs.Chart.{inRange}
-use Rattle.chart.specs.Day.{dayOf}
-use Rattle.chart.proofs.Days.{not-first, not-second}
-use Rattle.chart.proofs.cell_after.Statement.{statement}
-use Rattle.chart.proofs.cell_after.Tie as tie
+use Rattle.day.specs.Day.{dayOf}
+use Rattle.day.proofs.Days.{not-first, not-second}
+use Rattle.day.proofs.cell_after.Statement.{statement}
+use Rattle.day.proofs.cell_after.Tie as tie
 
 in-range-requires : tie.Need-in-range-requires
 in-range-requires c κs = search needs

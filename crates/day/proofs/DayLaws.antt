@@ -10,10 +10,10 @@ use lib.Dec.{leb}
 use lib.Ieee.{Float, nan}
 use Rattle.refusal.proofs.Tests.{parts}
 use Rattle.bitset.specs.Bits.{marked, size}
 use Rattle.chart.specs.Chart.{inRange, fresh, carried, readingOf, temperatureAt, ageAt, gap, maxDays, Gap, readingAt}
-use Rattle.chart.specs.Day.{nought, dayOf, dayAt, temperaturesAfter, agesAfter, readsAfter, isFresh, summaryAfter}
+use Rattle.day.specs.Day.{nought, dayOf, dayAt, temperaturesAfter, agesAfter, readsAfter, isFresh, summaryAfter}
 use Rattle.chart.proofs.Laws.{reads-fresh, fresh-reads, reads-carried, gap-exactly}
-use Rattle.chart.proofs.Days.{not-first, not-second, leaves, getD-listOf, count-fresh}
+use Rattle.day.proofs.Days.{not-first, not-second, leaves, getD-listOf, count-fresh}
 
 reads-left : (n d : ℕ) (new : List Float) (clouds : List ℕ) (temps : List Float) (ages : List ℕ) (c : ℕ) → c < n →
     readsAfter n d new clouds temps ages c ≡ readingOf (dayAt d new clouds temps ages c .0) (dayAt d new clouds temps ages c .1)

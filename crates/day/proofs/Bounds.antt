@@ -9,11 +9,11 @@ use borrow.Author.Count.{below-more}
 use borrow.Author.Tests.{ne-eqb}
 use lib.Ieee as Ieee
 use lib.Ieee.{Float}
 use Rattle.chart.specs.Chart.{inRange, Reading, fresh, carried, gap, temperatureAt, ageAt}
-use Rattle.chart.specs.Day.{Summary, none, withFresh, withCell, summaryOf, Foremost, Coldest, Warmest}
-use Rattle.chart.specs.Day.{temperaturesAfter, agesAfter, readsAfter, summaryAfter}
+use Rattle.day.specs.Day.{Summary, none, withFresh, withCell, summaryOf, Foremost, Coldest, Warmest}
+use Rattle.day.specs.Day.{temperaturesAfter, agesAfter, readsAfter, summaryAfter}
 use Rattle.chart.proofs.Laws.{gap≢fresh, fresh≢carried, fresh-same, reads-fresh}
 use Rattle.chart.proofs.Order.{Order, by-cold, by-warmth}
 
 module _ (reads : ℕ → Reading) where
   abbrev Reads : ℕ → Float → Type 0

@@ -1,8 +1,8 @@
--- `colder` meets its contract. Assumes nothing.
+-- `warmer` meets its contract. Assumes nothing.
 use mathlib.Core.Path.{sym, ap}
 use mathlib.Core.Bool.{Bool, cond}
-use Rattle.chart.proofs.colder.Statement.{statement}
-use Rattle.chart.proofs.colder.Tie as tie
+use Rattle.day.proofs.warmer.Statement.{statement}
+use Rattle.day.proofs.warmer.Tie as tie
 
 returns : tie.Need-returns
 returns c = sym (ap (λ (b : Bool). cond b (c .before .args .second) (c .before .args .first)) (c .if1 .taken))
@@ -10,5 +10,5 @@ returns c = sym (ap (λ (b : Bool). cond b (c .before .args .second) (c .before 
 returns-2 : tie.Need-returns-2
 returns-2 c = sym (ap (λ (b : Bool). cond b (c .before .args .second) (c .before .args .first)) (c .if1 .left))
 
-pub colder-spec : {M : Type 1} → statement M
-colder-spec = tie.close (tie.spec returns returns-2)
+pub warmer-spec : {M : Type 1} → statement M
+warmer-spec = tie.close (tie.spec returns returns-2)

@@ -7,10 +7,10 @@ use borrow.Author.Tests.{lt-ltb, le-ltb, eq-eqb, ne-eqb}
 use lib.ListN.{length}
 use Rattle.cell.specs.Cell.{cells}
 use Rattle.mask.specs.Mask.{maxMaskLevel}
 use Rattle.chart.specs.Chart.{maxDays}
 use Rattle.mask.proofs.Laws.{level-shifted}
-use Rattle.chart.proofs.day_tests.Statement.{statement}
-use Rattle.chart.proofs.day_tests.Tie as tie
+use Rattle.day.proofs.day_tests.Statement.{statement}
+use Rattle.day.proofs.day_tests.Tie as tie
 
 returns : tie.Need-returns
 returns c = simp (lt-ltb maxMaskLevel (c .before .args .level) (omega arith))

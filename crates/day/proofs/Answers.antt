@@ -12,8 +12,8 @@ use Rattle.cell.specs.Cell.{cells}
 use Rattle.mask.specs.Mask.{maxMaskLevel, saidMask}
 use Rattle.mask.specs.declared.MaskAnswer.{MaskAnswer}
 use Rattle.mask.specs.declared.MaskAnswer.the-variants as mask-answer
 use Rattle.chart.specs.Chart.{maxDays}
-use Rattle.chart.specs.Day.{Summary, dayTests, dayCall, summaryAfter, temperaturesAfter, agesAfter}
+use Rattle.day.specs.Day.{Summary, dayTests, dayCall, summaryAfter, temperaturesAfter, agesAfter}
 
 -- the slices and the day limit, as a day takes them
 pub record Ready (k d : ℕ) (new : List Float) (clouds : List ℕ) (temps : List Float) (ages : List ℕ) : Type 0 where

@@ -15,8 +15,8 @@ use lib.Seq.{ext-getD, getD-at, getD-set-same, getD-set-other}
 use Rattle.refusal.proofs.Tests.{parts}
 use Rattle.bitset.specs.Bits.{size}
 use Rattle.bitset.proofs.Laws.{size-le}
 use Rattle.chart.specs.Chart.{inRange, Reading, fresh, carried, gap, maxDays, readingOf, temperatureAt, ageAt, readingAt}
-use Rattle.chart.specs.Day.{nought, dayOf, listOf, Summary, none, withFresh, withCell, summaryOf, isFresh}
+use Rattle.day.specs.Day.{nought, dayOf, listOf, Summary, none, withFresh, withCell, summaryOf, isFresh}
 
 -- ---- the list of a function's values
 

@@ -2,11 +2,11 @@
 use mathlib.Core.Path.{_≡_, _∙_}
 use native.Mathlib.Omega.{arith}
 use borrow.Author.Needs.{needs}
 use Rattle.chart.specs.Chart.{readingOf}
-use Rattle.chart.specs.Day.{withFresh, withCell, summaryIs}
-use Rattle.chart.proofs.Days.{not-fresh, counts, first-fresh, next-fresh}
-use Rattle.chart.proofs.with_cell.Statement.{statement}
-use Rattle.chart.proofs.with_cell.Tie as tie
+use Rattle.day.specs.Day.{withFresh, withCell, summaryIs}
+use Rattle.day.proofs.Days.{not-fresh, counts, first-fresh, next-fresh}
+use Rattle.day.proofs.with_cell.Statement.{statement}
+use Rattle.day.proofs.with_cell.Tie as tie
 
 returns : tie.Need-returns
 returns c =

@@ -7,11 +7,11 @@ use borrow.Author.Needs.{needs}
 use lib.Ieee as Ieee
 use lib.Ieee.{Float}
 use lib.ListN.{length, length-set}
 use Rattle.chart.specs.Chart.{inRange, readingOf}
-use Rattle.chart.specs.Day.{dayAt, temperaturesAfter, agesAfter, Summary, summaryOf, summaryAfter, summaryIs}
-use Rattle.chart.proofs.Days.{Rewritten, none-rewritten, cell-rewritten, all-rewritten, same-cell, fresh-inside, count-le}
-use Rattle.chart.proofs.rewrite.Statement.{statement}
-use Rattle.chart.proofs.rewrite.Tie as tie
+use Rattle.day.specs.Day.{dayAt, temperaturesAfter, agesAfter, Summary, summaryOf, summaryAfter, summaryIs}
+use Rattle.day.proofs.Days.{Rewritten, none-rewritten, cell-rewritten, all-rewritten, same-cell, fresh-inside, count-le}
+use Rattle.day.proofs.rewrite.Statement.{statement}
+use Rattle.day.proofs.rewrite.Tie as tie
 
 abbrev Inv-loop : tie.InvT-loop
 Inv-loop limit new clouds temperatures₀ ages₀ summary₀ i₀ temperatures ages summary i =

@@ -6,10 +6,10 @@ use borrow.Author.Needs.{needs}
 use Rattle.refusal.specs.Answer.{given, refused, inOrder, done}
 use Rattle.mask.specs.Mask.{saidMask}
 use Rattle.mask.proofs.Laws.{mask-small}
-use Rattle.chart.specs.Day.{dayTests, dayCall, temperaturesAfter, agesAfter, summaryAfter}
-use Rattle.chart.proofs.Answers.{Ready, ready, day-refused, day-given}
-use Rattle.chart.proofs.day.Statement.{statement}
-use Rattle.chart.proofs.day.Tie as tie
+use Rattle.day.specs.Day.{dayTests, dayCall, temperaturesAfter, agesAfter, summaryAfter}
+use Rattle.day.proofs.Answers.{Ready, ready, day-refused, day-given}
+use Rattle.day.proofs.day.Statement.{statement}
+use Rattle.day.proofs.day.Tie as tie
 
 day-tests-requires : tie.Need-day-tests-requires
 day-tests-requires c κs = search needs

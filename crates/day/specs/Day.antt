@@ -13,10 +13,10 @@ use Rattle.refusal.specs.Tests.{badLevel, badLength}
 use Rattle.bitset.specs.Bits.{marked}
 use Rattle.cell.specs.Cell.{cells}
 use Rattle.mask.specs.Mask.{maxMaskLevel}
 use Rattle.chart.specs.Chart.{inRange, Reading, fresh, carried, gap, maxDays, temperatureAt, ageAt, readingAt}
-use Rattle.chart.specs.declared.Summary as declared
-use Rattle.chart.specs.declared.DayAnswer.{DayAnswer}
-use Rattle.chart.specs.declared.DayAnswer.the-variants as day-answer
+use Rattle.day.specs.declared.Summary as declared
+use Rattle.day.specs.declared.DayAnswer.{DayAnswer}
+use Rattle.day.specs.declared.DayAnswer.the-variants as day-answer
 
 -- ---- what a day leaves
 

@@ -1,0 +1,4 @@
+pub mod Days
+pub mod Answers
+pub mod DayLaws
+pub mod Bounds
