@@ -8,8 +8,8 @@ use native.Mathlib.Omega.{arith}
 use borrow.Author.Tests.{ltb-false, leb-true}
 use lib.Dec.{leb, ltb, eqb}
 use lib.ListN.{length, drop, replicate, length-replicate}
-use Rattle.refusal.specs.Answer.{Answer, given, refused, Test, _when_, inOrder}
-use Rattle.refusal.proofs.Answers.{First, first, given≢refused, refused-same}
+use Rattle.refusal.specs.Answer.{Answer, given, refused, Test, _when_, inOrder, First}
+use Rattle.refusal.proofs.Answers.{first, given≢refused, refused-same}
 use Rattle.refusal.proofs.Tests.{clash}
 use Rattle.varint.specs.Varint.{more, valued, inForm, readCall, numeral}
 use Rattle.border.specs.Border.{maxCodes, value, after, badNumber, levelRead, startRead, countRead, header, cellsRead, readTests, readBorder}
