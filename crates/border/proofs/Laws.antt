@@ -149,7 +149,7 @@ both-passed ((n when b) ∷ ts) us p q = (p .0, both-passed ts us (p .1) q)
 
 pub reads-accepted : (bs out : List ℕ) (a : ℕ × ℕ) → readBorder bs out .0 ≡ given a → Reads bs (length out)
 reads-accepted bs out a e =
-    let p = passed (readTests bs (length out)) (header bs .0, length (cellsRead bs)) a (sym e) in
+    let p = passed (readTests bs (length out)) _ a (sym e) in
     let q = passed-both (headerTests bs) (codeTests bs (length out) (header bs)) (p .0) in
     let b = begins bs (q .0) in
     let t = subst (λ (h : Header). Passed (codeTests bs (length out) h)) (begins-header bs (b .0) (b .1) (b .2) (b .3) (b .4)) (q .1) in
@@ -187,7 +187,7 @@ reads-given bs out r =
       ),
     ) in
     let all = both-passed (headerTests bs) (codeTests bs (length out) (header bs)) (begins-passed bs (r .k) (r .start) (r .n) (r .at) (r .beginning)) codes in
-    sym (lent-given _ out (cellsRead bs ++ drop (length (cellsRead bs)) out) _ (gives (readTests bs (length out)) _ all))
+    sym (lent-given _ out _ _ (gives (readTests bs (length out)) _ all))
     ∙ ap₂ (λ (i : ℕ) (l : List ℕ). (given (i, length l), l ++ drop (length l) out)) level found
 
 -- ---- what is written

@@ -1,6 +1,8 @@
 -- `ticklocust_centre` meets its contract. Assumes nothing.
 use mathlib.Core.Path.{refl, _∙_, ap₂}
 use lib.IntN.{ℤ}
+use mir.Facts.{toZ-ofZ}
+use mir.Syntax.{w32}
 use borrow.Author.Needs.{needs}
 use Rattle.centre.specs.Centre.{saidCentre}
 use Rattle.ticklocust.proofs.Told.{value-refused, value-told}
@@ -21,7 +23,8 @@ cast-result c = search needs
 
 returns : tie.Need-returns
 returns c =
-    ap₂ (λ (y x : ℤ). (0, (y, x))) (search needs) (search needs)
+    ap₂ (λ (y x : ℤ). (0, (y, x))) (toZ-ofZ {w = w32} (record { sfits = c .before .struct-told .given .0 .1 }))
+    (toZ-ofZ {w = w32} (record { sfits = c .struct-told2 .given .0 .1 }))
     ∙ value-told saidCentre _ _ _ (c .before .before .before .before .before .centre-of .ensures) (c .before .before .before .north .given .1) _ _ refl
 
 returns-2 : tie.Need-returns-2
