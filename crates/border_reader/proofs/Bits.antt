@@ -1,19 +1,18 @@
 -- Codes of three bits in bytes of eight: one code, and the bits after the last. Assumes nothing.
-use Prim.Native.Nat.{ℕ, suc, _+_, _-_, _*_, _/_, _%_, _^_, _≤_, _<_}
+use Prim.Native.Nat.{ℕ, _+_, _-_, _*_, _/_, _%_, _^_, _≤_, _<_}
 use mathlib.Core.Bool.{Bool, true, false}
 use mathlib.Core.Path.{_≡_, refl, sym, ap, ap₂, _∙_}
 use mathlib.Core.List.{List}
-use native.Mathlib.Nat.{div-div-eq-div-mul, div-eq-of-lt, div-lt-iff-lt-mul, one-le-pow, pow-le-pow-right, mul-le-mul, mul-le-mul-right, mod-eq-of-lt}
-use native.Mathlib.Numerals.{add-one}
+use native.Mathlib.Nat.{div-div-eq-div-mul, div-eq-of-lt, div-lt-iff-lt-mul, one-le-pow, pow-le-pow-right, mod-eq-of-lt}
 use native.Mathlib.Omega.{arith}
 use borrow.Author.Tests.{ltb-true, lt-ltb, eqb-true, eqb-false}
 use lib.Dec.{ltb, eqb}
-use lib.ListN.{length, drop, getD, set, length-set, drop-of-length-le}
+use lib.ListN.{drop, getD}
 use lib.Pow.{pow-add}
-use lib.Seq.{sets, drop-cons, getD-drop}
+use lib.Seq.{getD-drop}
 use Rattle.step.proofs.Laws.{code-cases}
-use Rattle.border.specs.Stored.{digitsOf, valueOf, codeBytes, packed, unpacked}
-use Rattle.border.proofs.Digits.{length-digits, value-first, value-drop, value-below, value-digits, digits-value, pow-pow}
+use Rattle.border.specs.Stored.{valueOf, codeBytes}
+use Rattle.border.proofs.Digits.{value-first, value-drop, pow-pow}
 
 -- ---- one code
 

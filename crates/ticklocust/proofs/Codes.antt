@@ -1,13 +1,13 @@
 -- A code that is above 7 is as good as any other that is. Assumes nothing.
 use Prim.Native.Nat.{ℕ, _<_}
-use mathlib.Core.Path.{_≡_, refl, sym, ap, _∙_}
+use mathlib.Core.Path.{_≡_, sym, ap, _∙_}
 use mathlib.Core.List.{[], _∷_}
 use mathlib.Core.Logic.{_⊎_, inl, inr}
 use mathlib.Core.Option.{Option}
 use Rattle.refusal.specs.Answer.{inOrder}
 use Rattle.refusal.specs.Tests.{badLevel}
 use Rattle.cell.specs.Cell.{Place, place, number, maxLevel, badCell}
-use Rattle.step.specs.Step.{step, badStep, foundOr, stepCall}
+use Rattle.step.specs.Step.{badStep, foundOr, stepCall}
 use Rattle.step.proofs.Laws.{past-seven}
 
 pub same-step : (k n c d : ℕ) → (c ≡ d) ⊎ ((7 < c) × (7 < d)) → stepCall k n c ≡ stepCall k n d

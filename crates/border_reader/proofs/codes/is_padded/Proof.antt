@@ -1,9 +1,8 @@
 -- `is_padded` meets its contract: what lies after the codes is below three codes more. Assumes nothing.
-use Prim.Native.Nat.{ℕ, _^_, _<_}
+use Prim.Native.Nat.{_^_, _<_}
 use mathlib.Core.Path.{sym, _∙_}
 use borrow.Author.Needs.{needs}
 use native.Mathlib.Omega.{arith}
-use lib.ListN.{getD}
 use Rattle.border.specs.Stored.{valueOf, codeBytes}
 use Rattle.border.proofs.Digits.{value-below}
 use Rattle.border_reader.proofs.Bits.{not-padded, padded}
