@@ -36,7 +36,7 @@ bit-low-at m b y j =
     let p : b * 2 ^ (m + 1 + j) + y ≡ y + b * 2 ^ m * 2 * 2 ^ j = rw (pow-add 2 (m + 1) j, pow-add 2 m 1) (omega arith) in
     rw (p, add-mul-div-right y (b * 2 ^ m * 2) (pow-pos j), add-mul-mod-self-right)
 
-bit-low : (n b y j : ℕ) → j < n → bit (b * 2 ^ n + y) j ≡ bit y j
+pub bit-low : (n b y j : ℕ) → j < n → bit (b * 2 ^ n + y) j ≡ bit y j
 bit-low n b y j h =
     let e : n - suc j + 1 + j ≡ n = omega arith in
     rw e at (bit-low-at (n - suc j) b y j)

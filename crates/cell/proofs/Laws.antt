@@ -1,9 +1,9 @@
 -- The laws of frames, places and numbers, each once over the level k. They are what the crates above cite.
 -- Assumes nothing.
-use Prim.Native.Nat.{ℕ, zero, suc, _+_, _*_, _-_, _/_, _%_, _^_, _≤_, _<_}
+use Prim.Native.Nat.{ℕ, zero, suc, _+_, _*_, _/_, _%_, _^_, _≤_, _<_}
 use mathlib.Core.Path.{_≡_, refl, sym, ap₂, subst, _∙_}
 use mathlib.Core.Logic.{_↔_}
-use native.Mathlib.Nat.{one-mul, add-mul, mul-assoc, mul-left-comm, mul-le-mul-right, le-pred-of-lt, pow-suc, pow-zero, one-le-pow}
+use native.Mathlib.Nat.{one-mul, mul-left-comm, pow-suc, pow-zero, one-le-pow}
 use native.Mathlib.Nat.{mod-one, mod-eq-of-lt, div-one, div-add-mod', div-lt-iff-lt-mul, le-div-iff-mul-le, div-div-eq-div-mul}
 use native.Mathlib.Omega.{arith}
 use lib.ListN.{getD}
@@ -15,6 +15,12 @@ use Rattle.cell.specs.Cell.{Frame, frameOf, up, down, row, col, children
 use Rattle.cell.specs.Cell.{parents, parities, asChild, digits, number, cells}
 
 -- ---- one step of the table
+
+-- what holds of 0 and 1 holds of each bit
+pub bit-cases : (P : ℕ → Type 0) → P 0 → P 1 → (t : ℕ) → t < 2 → P t
+bit-cases P p0 p1 zero h = p0
+bit-cases P p0 p1 (suc zero) h = p1
+bit-cases P p0 p1 (suc (suc t)) h = absurd (omega arith)
 
 -- what holds of 0, 1, 2 and 3 holds of each digit
 pub digit-cases : (P : ℕ → Type 0) → P 0 → P 1 → P 2 → P 3 → (d : ℕ) → d < 4 → P d
@@ -184,36 +190,12 @@ unfolding span
 frame-bounds Up a b M h = omega arith
 frame-bounds Down a b M h = omega arith
 
--- one digit more
-pub frame-more : (k j n : ℕ) → j < k → frame (k - j) (n / 4 ^ j) ≡ child (frame (k - suc j) (n / 4 ^ suc j)) (n / 4 ^ j % 4)
-unfolding frame
-frame-more k j n h =
-    let e : k - j ≡ suc (k - suc j) = omega arith in
-    let q : n / 4 ^ j / 4 ≡ n / 4 ^ suc j = rw (pow-suc, div-div-eq-div-mul) in
-    rw (e, q)
-
 -- an octant above 7 is a number past the level's
 pub past-level : (k n : ℕ) → 8 ≤ n / 2 ^ (2 * k) → cells k ≤ n
 past-level k n h = le-div-iff-mul-le (one-le-pow k 4 (omega arith)) .0 (rw shift-four at h)
 
 pub below-level : (k n : ℕ) → n / 2 ^ (2 * k) < 8 → n < cells k
 below-level k n h = div-lt-iff-lt-mul (one-le-pow k 4 (omega arith)) .0 (rw shift-four at h)
-
--- one digit moved from the frame to the sum
-pub digits-more : (k j : ℕ) (f : Frame) (w s : ℕ) → j < k →
-    digits (k - suc j) (asChild f .0) * (4 * w) + (s + asChild f .1 * w) ≡ digits (k - j) f * w + s
-unfolding digits
-digits-more k j f w s h =
-    let e : k - j ≡ suc (k - suc j) = omega arith in
-    let d = digits (k - suc j) (asChild f .0) in
-    rw (e, add-mul) (omega (arith, mul-left-comm d 4 w, mul-assoc 4 d w))
-
--- a digit is below 4, and at its weight keeps the sum below the next weight
-pub digit-small : (f : Frame) → asChild f .1 < 4
-digit-small f = child-known f .small
-
-pub digit-weight : (f : Frame) (w s : ℕ) → s < w → s + asChild f .1 * w < 4 * w
-digit-weight f w s h = omega (arith, mul-le-mul-right w (le-pred-of-lt (digit-small f)))
 
 -- N as the code shifts it, in w bits
 pub shifted : (w k : ℕ) → k < w → 1 * 2 ^ k % 2 ^ w ≡ 2 ^ k

@@ -1,2 +1,8 @@
 pub mod Laws
 pub mod Answers
+pub mod Recode
+pub mod Runs
+pub mod Passes
+pub mod Odd
+pub mod FrameBits
+pub mod DigitBits

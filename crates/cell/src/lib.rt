@@ -1,7 +1,9 @@
 // Cells and their numbers: document 01, "Cells and their numbers".
+mod bits;
+
 ghost use mathlib.Core.Path.{_≡_};
-ghost use Prim.Native.Nat.{_^_, _<_, _≤_};
-ghost use Rattle.cell.specs.Cell.{Frame, Place, child, asChild, place, number, Occurs, maxLevel, span};
+ghost use Prim.Native.Nat.{_≤_};
+ghost use Rattle.cell.specs.Cell.{Frame, place, number, Occurs, maxLevel, span};
 ghost use Rattle.cell.specs.Cell.{placeOf, saidPlace, saidNumber, placeCall, numberCall};
 
 // A cell's number at its level: octant × 4^level plus the level's digits in base 4, first digit highest.
@@ -62,43 +64,25 @@ fn down(octant: u32, row: u32, col: u32) -> Place
     }
 }
 
-// Child 0 to 3 of a cell.
-fn child_of(parent: Place, digit: u32) -> Place
-    requires { ⌜ (digit < 4) × (parent .row < 2 ^ 30) × (parent .col < 2 ^ 30) ⌝ }
-    ensures { λ r. ⌜ placeOf r ≡ (parent .octant, child (placeOf parent .1) digit) ⌝ }
-{
-    let octant = parent.octant;
-    let kind = parent.kind;
-    let row = 2 * parent.row;
-    let col = 2 * parent.col;
-    match kind {
-        Kind::Up => match digit {
-            0 => down(octant, row, col),
-            1 => up(octant, row + 1, col),
-            2 => up(octant, row, col),
-            _ => up(octant, row, col + 1),
-        },
-        Kind::Down => match digit {
-            0 => up(octant, row + 1, col + 1),
-            1 => down(octant, row, col + 1),
-            2 => down(octant, row + 1, col),
-            _ => down(octant, row + 1, col + 1),
-        },
-    }
-}
-
-// The place that a cell's digits lead to, from the highest to the lowest.
+// The place that a cell's digits lead to. On the way a cell is down where an odd number of the digits to it are 0.
 fn descend(level: u32, cell: CellNumber) -> Place
     requires { ⌜ level ≤ maxLevel ⌝ }
     ensures { λ r. ⌜ placeOf r ≡ place level cell ⌝ }
 {
-    let mut place = up(cell >> (2 * level), 0, 0);
-    let mut left = level;
-    while 0 < left {
-        left -= 1;
-        place = child_of(place, (cell >> (2 * left)) % 4);
+    let octant = cell >> (2 * level);
+    let side = 1 << level;
+    let all = side - 1;
+    let halves = bits::split(cell);
+    let high = halves.high % side;
+    let low = halves.low % side;
+    let downs = bits::odd_from(all ^ (high | low));
+    let row = all ^ high ^ downs;
+    let col = all ^ low ^ (high | downs);
+    if downs % 2 == 0 {
+        up(octant, row, col)
+    } else {
+        down(octant, row, col)
     }
-    place
 }
 
 // The place of a cell's number.
@@ -114,58 +98,6 @@ pub fn place_of(level: u32, cell: CellNumber) -> PlaceAnswer
     PlaceAnswer::At(descend(level, cell))
 }
 
-// A cell as a child: its parent, and which child of it the cell is.
-struct AsChild(Place, u32);
-
-// The parent of a place, and which child of it the place is, by the parities of row and column.
-fn as_child(place: Place) -> AsChild
-    ensures parent { λ r. ⌜ placeOf (r .0) ≡ (place .octant, asChild (placeOf place .1) .0) ⌝ }
-    ensures digit { λ r. ⌜ r .1 ≡ asChild (placeOf place .1) .1 ⌝ }
-{
-    let octant = place.octant;
-    let kind = place.kind;
-    let row = place.row / 2;
-    let col = place.col / 2;
-    let parities = 2 * (place.row % 2) + place.col % 2;
-    let upper = up(octant, row, col);
-    let lower = down(octant, row, col);
-    match kind {
-        Kind::Up => match parities {
-            0 => AsChild(upper, 2),
-            1 => AsChild(upper, 3),
-            2 => AsChild(upper, 1),
-            _ => AsChild(lower, 0),
-        },
-        Kind::Down => match parities {
-            0 => AsChild(upper, 0),
-            1 => AsChild(lower, 1),
-            2 => AsChild(lower, 2),
-            _ => AsChild(lower, 3),
-        },
-    }
-}
-
-// The digits of a place that occurs, the lowest first, with the octant above them.
-fn ascend(level: u32, place: Place) -> CellNumber
-    requires { ⌜ (level ≤ maxLevel) × Occurs level (placeOf place) ⌝ }
-    ensures { λ r. ⌜ r ≡ number level (placeOf place) ⌝ }
-{
-    let octant = place.octant;
-    let mut low = place;
-    let mut digits = 0;
-    let mut weight = 1;
-    let mut done = 0;
-    while done < level {
-        let child = as_child(low);
-        let digit = child.1;
-        digits += digit * weight;
-        weight = 4 * weight;
-        low = child.0;
-        done += 1;
-    }
-    octant * weight + digits
-}
-
 // The least N at which the place's frame occurs.
 fn span_of(place: Place) -> u64
     ensures { λ r. ⌜ r ≡ span (placeOf place .1) ⌝ }
@@ -176,6 +108,21 @@ fn span_of(place: Place) -> u64
         Kind::Up => sum + 1,
         Kind::Down => sum + 2,
     }
+}
+
+// The number of a place that occurs. A carry into bit i of row + column + kind tells that the cell i levels up is down.
+fn ascend(level: u32, place: Place) -> CellNumber
+    requires { ⌜ (level ≤ maxLevel) × Occurs level (placeOf place) ⌝ }
+    ensures { λ r. ⌜ r ≡ number level (placeOf place) ⌝ }
+{
+    let octant = place.octant;
+    let row = place.row as u64;
+    let col = place.col as u64;
+    let all = (1 << level) - 1;
+    let crossed = (span_of(place) - 1) ^ col;
+    let high = all ^ crossed;
+    let low = col ^ (row & crossed);
+    (octant << (2 * level)) | bits::join(high, low)
 }
 
 // The number of a place, where the level has a cell there.

@@ -3,28 +3,41 @@
 use Prim.Native.Nat.{ℕ, zero, suc, _+_, _*_, _-_, _/_, _%_, _^_, _≤_, _<_}
 use mathlib.Core.Path.{_≡_, refl, sym, ap, _∙_}
 use mathlib.Core.Bool.{Bool, true, false, cond}
-use native.Mathlib.Nat.{div-add-mod', mul-add-div-right, div-lt-iff-lt-mul, le-div-iff-mul-le, mul-div-le, lt-mul-div-succ}
-use native.Mathlib.Nat.{mul-le-mul, mul-le-mul-left, mul-lt-mul-of-pos-left}
+use native.Mathlib.Nat.{div-lt-iff-lt-mul, le-div-iff-mul-le, mul-div-le, lt-mul-div-succ, mul-div-cancel, mul-div-mul-left, mul-assoc, mul-comm, mul-left-comm}
+use native.Mathlib.Nat.{mul-le-mul, mul-le-mul-left, mul-le-mul-right, mul-lt-mul-of-pos-left}
 use native.Mathlib.Omega.{arith}
 use lib.Dec.{ltb}
 use lib.Pow.{pow-pos}
 use lib.IntN.{ℤ, pos, negsuc, natAbs, negℤ, _+ℤ_}
 use borrow.Author.Tests.{le-ltb, ltb-true, ltb-false}
-use Rattle.cell.specs.Cell.{Frame, up, down, row, col, Place, Occurs, span}
+use Rattle.cell.specs.Cell.{Frame, up, down, row, col, Place, Occurs, span, maxLevel}
 use Rattle.position.specs.Position.{q, longitudeOut, beginning, northOctant, octant, scaledT, scaledR, Holds, frameAt, placeAt}
-use Rattle.position.proofs.Laws.{beginning-inside, beginning-octant, beginning-offset, octant-south, octant-north}
+use Rattle.position.proofs.Laws.{squareThird, square-third, beginning-inside, beginning-octant, beginning-offset, octant-south, octant-north}
 use Rattle.position.proofs.Laws.{HoldsAt, held-holds, holds-holder, frame-below}
 use Rattle.centre.specs.Centre.{thirds, centreP, centreM, latitudeOf, centre}
 use Rattle.centre.specs.inside.Parts.{pOf, mOf}
 
 -- ---- a product past 64 bits
 
--- x · y / d, by the whole part and the rest of y / d
-pub split-product : (x y d : ℕ) → 0 < d → x * (y / d) + x * (y % d) / d ≡ x * y / d
-split-product x y d h =
-    let e : x * (y / d * d + y % d) ≡ x * y = ap (λ (z : ℕ). x * z) (div-add-mod' y d) in
-    let f : x * y ≡ x * (y / d) * d + x * (y % d) = omega arith in
-    rw f (sym (mul-add-div-right h _ _))
+-- to level 14, q² is a whole number of 3N
+square-whole : (k : ℕ) → k ≤ maxLevel → q * q / 3 / 2 ^ k * (3 * 2 ^ k) ≡ q * q
+square-whole k h =
+    rw (square-third k h, mul-div-cancel (squareThird k) {n = 2 ^ k} (pow-pos k))
+    (mul-left-comm (squareThird k) 3 (2 ^ k) ∙ ap (λ (x : ℕ). 3 * x) (sym (square-third k h)))
+
+-- y · q² / (3N · d), by q² / 3N: y is at most 3N, so that the product is at most q²
+pub whole-share : (k y d : ℕ) → k ≤ maxLevel → y * (q * q / 3 / 2 ^ k) / d ≡ y * (q * q) / (3 * 2 ^ k * d)
+whole-share k y d h =
+    let w = 3 * 2 ^ k in
+    let s = q * q / 3 / 2 ^ k in
+    let e : y * (q * q) ≡ w * (y * s) = ap (λ (x : ℕ). y * x) (sym (square-whole k h)) ∙ omega (arith, mul-assoc y s w, mul-comm (y * s) w) in
+    let z : 0 < 2 ^ k = pow-pos k in
+    rw e (sym (mul-div-mul-left (y * s) d (omega arith)))
+
+pub share-small : (k y : ℕ) → k ≤ maxLevel → y ≤ 3 * 2 ^ k → y * (q * q / 3 / 2 ^ k) ≤ q * q
+share-small k y h l =
+    let s = q * q / 3 / 2 ^ k in
+    omega (arith, mul-le-mul-right s l, mul-comm s (3 * 2 ^ k), square-whole k h)
 
 -- ---- centres are positions below the pole, off the equator
 

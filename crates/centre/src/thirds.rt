@@ -13,23 +13,23 @@ ghost use Rattle.position.specs.Position.{q, beginning};
 ghost use Rattle.centre.specs.Centre.{latitudeOf, centre, saidCentre};
 ghost use Rattle.centre.specs.inside.Parts.{pOf, mOf};
 
-// The square of a quarter of a turn.
-const SQUARE: u64 = QUARTER * QUARTER;
+// A third of the square of a quarter of a turn: whole, and so are its parts of 2^level to level 14.
+const SQUARE_THIRD: u64 = QUARTER * QUARTER / 3;
 
-// The size p of a centre's latitude, q · thirds / 3N, where an octant has `parts` = 3N thirds of a row.
-fn centre_p(thirds: u64, parts: u64) -> u64
-    requires { ⌜ (thirds < parts) × (parts ≤ 3 * 2 ^ maxLevel) ⌝ }
-    ensures { λ r. ⌜ r ≡ q * thirds / parts ⌝ }
+// The size p of a centre's latitude, q · thirds / 3N.
+fn centre_p(level: u32, thirds: u64) -> u64
+    requires { ⌜ (level ≤ maxLevel) × (thirds ≤ 3 * 2 ^ maxLevel) ⌝ }
+    ensures { λ r. ⌜ r ≡ q * thirds / (3 * 2 ^ level) ⌝ }
 {
-    QUARTER * thirds / parts
+    (QUARTER * thirds / 3) >> level
 }
 
-// The offset m of a centre's longitude, thirds · q² / width: by the whole part and the rest of q² / width, as the product itself can pass 64 bits.
-fn centre_m(thirds: u64, width: u64) -> u64
-    requires { ⌜ (thirds ≤ 3 * 2 ^ maxLevel) × (0 < width) × (thirds ≤ width) × (width ≤ 3 * 2 ^ maxLevel * q) ⌝ }
-    ensures { λ r. ⌜ r ≡ thirds * (q * q) / width ⌝ }
+// The offset m of a centre's longitude, thirds · q² / (3N · rest): by q² / 3N, which is whole, as the product itself can pass 64 bits.
+fn centre_m(level: u32, thirds: u64, rest: u64) -> u64
+    requires { ⌜ (level ≤ maxLevel) × (thirds ≤ 3 * 2 ^ level) × (0 < rest) ⌝ }
+    ensures { λ r. ⌜ r ≡ thirds * (q * q) / (3 * 2 ^ level * rest) ⌝ }
 {
-    thirds * (SQUARE / width) + thirds * (SQUARE % width) / width
+    thirds * (SQUARE_THIRD >> level) / rest
 }
 
 // The centre of a cell by its row, its column and the document's s.
@@ -39,12 +39,11 @@ fn centre_by(level: u32, octant: u32, row: u64, col: u64, s: u64) -> CentreAnswe
         let p = pOf (2 ^ level) (3 * row + s) in
         ⌜ saidCentre r ≡ given (latitudeOf octant p, beginning octant +ℤ pos (mOf (2 ^ level) (3 * col + s) p)) ⌝ }
 {
-    let parts = 3 * (1 << level);
     let above = 3 * row + s;
     let beside = 3 * col + s;
-    let p = centre_p(above, parts);
-    let width = parts * (QUARTER - p);
-    let m = centre_m(beside, width);
+    let p = centre_p(level, above);
+    let rest = QUARTER - p;
+    let m = centre_m(level, beside, rest);
     CentreAnswer::At(
         angle::latitude_of(octant, p),
         angle::longitude_of(octant, m),

@@ -1,4 +1,4 @@
 pub mod Bytes
-pub mod Reached
-pub mod Growth
+pub mod Shrinking
+pub mod Rings
 pub mod Answers

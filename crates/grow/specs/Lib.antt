@@ -1,2 +1,1 @@
 pub mod Grow
-pub mod inside

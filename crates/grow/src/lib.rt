@@ -8,7 +8,7 @@ ghost use Rattle.mask.specs.Mask.{maxMaskLevel};
 ghost use Rattle.grow.specs.Grow.{grownCells, shrunkCells, ringTests, growCall, shrinkCall, saidRings};
 use mask::MaskAnswer;
 
-mod rings;
+mod points;
 
 // The most rings of one call.
 pub const MAX_RINGS: u32 = 64;
@@ -25,8 +25,8 @@ fn grow_into(level: u32, rings: u32, mask: &[u8], out: &mut [u8], work: &mut [u8
     ensures cleared { λ _. ⌜ now (work .exit) ≡ replicate (4 ^ level) 0 ⌝ }
 {
     bytes::copy(mask, out);
-    bytes::copy(mask, work);
-    rings::spread(level, rings, out, work);
+    points::spread(level, rings, out);
+    bitset::clear(work);
 }
 
 // Shrinks a mask of a level into another: grows what is outside it.
@@ -37,9 +37,9 @@ fn shrink_into(level: u32, rings: u32, mask: &[u8], out: &mut [u8], work: &mut [
 {
     bytes::copy(mask, out);
     bitset::complement(out);
-    bytes::copy(out, work);
-    rings::spread(level, rings, out, work);
+    points::spread(level, rings, out);
     bitset::complement(out);
+    bitset::clear(work);
 }
 
 // Marks in `out` the cells at most `rings` touching steps from a cell that `mask` marks. `work` is lent for working and holds zeros afterwards.

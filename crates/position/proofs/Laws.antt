@@ -1,15 +1,15 @@
 -- The laws of positions, each once over the level k. They are what the crates above cite.
 -- Assumes nothing.
-use Prim.Native.Nat.{ℕ, suc, _+_, _*_, _-_, _/_, _%_, _^_, _≤_, _<_}
+use Prim.Native.Nat.{ℕ, zero, suc, _+_, _*_, _-_, _/_, _%_, _^_, _≤_, _<_}
 use mathlib.Core.Path.{_≡_, refl, sym, ap, ap₂, _∙_}
 use mathlib.Core.Bool.{Bool, true, false, cond}
-use native.Mathlib.Nat.{div-add-mod', mod-mod, mul-add-div-right, mul-add-mod-self-right, mul-div-mul-right, mod-eq-of-lt, mod-lt}
-use native.Mathlib.Nat.{mul-le-mul, mul-lt-mul-of-pos-left, mul-lt-mul-of-pos-right, lt-of-mul-lt-mul-right, mul-assoc, pow-suc}
+use native.Mathlib.Nat.{div-add-mod', mod-mod, mul-add-mod-self-right, mul-div-cancel, mul-div-mul-right, mod-eq-of-lt, mod-lt}
+use native.Mathlib.Nat.{mul-le-mul, mul-lt-mul-of-pos-left, mul-lt-mul-of-pos-right, lt-of-mul-lt-mul-right, mul-assoc, mul-comm, add-mul, pow-suc}
 use native.Mathlib.Omega.{arith}
 use lib.Dec.{ltb, eqb}
 use lib.ListN.{getD}
 use lib.Arith.{digits-div, digits-mod, lt-of-le-ne}
-use lib.Pow.{pow-pos, pow-mono}
+use lib.Pow.{pow-add, pow-pos, pow-mono}
 use lib.Signed.{ltZ}
 use lib.IntN.{ℤ, pos, negsuc, natAbs, _+ℤ_, subℕ}
 use borrow.Author.Tests.{lt-ltb, le-ltb, lt-leb, ne-eqb, leb-false, ltb-true, ltb-false, eqb-true, eqb-false}
@@ -211,21 +211,52 @@ pub place-at-occurs : (k : ℕ) (y x : ℤ) → latitudeOut y ≡ false → Occu
 unfolding placeAt
 place-at-occurs k y x h = (octant-below y x, frame-at-span k (natAbs y) (offset x) (ltb-false q (natAbs y) h) (offset-below x))
 
--- ---- products past 64 bits
+-- ---- a product past 64 bits
 
--- n · x over w², by the two digits of x in base w
-digits-product : (n x w : ℕ) → n * x ≡ n * (x / w) / w * (w * w) + (n * (x / w) % w * w + n * (x % w))
-digits-product n x w =
-    let h = n * (x / w) in
-    let e : n * (x / w * w + x % w) ≡ n * x = ap (λ (y : ℕ). n * y) (div-add-mod' x w) in
-    let f : (h / w * w + h % w) * w ≡ h * w = ap (λ (y : ℕ). y * w) (div-add-mod' h w) in
-    omega arith
+-- what is left over of a fraction whose two parts are taken w times
+times-rest : (x u w : ℕ) → 0 < u → 0 < w → x * w % (u * w) ≡ x % u * w
+times-rest x u w hu hw =
+    let e : (x / u * u + x % u) * w ≡ x * w = ap (λ (y : ℕ). y * w) (div-add-mod' x u) in
+    let f : x * w ≡ x / u * (u * w) + x % u * w = omega (arith, add-mul (x / u * u) (x % u) w, mul-assoc (x / u) u w) in
+    rw (f, mul-add-mod-self-right (x / u) (u * w) (x % u * w)) (mod-eq-of-lt (mul-lt-mul-of-pos-right (mod-lt x hu) hw))
 
-pub share-whole : (n x w : ℕ) → 0 < w → n * (x / w) / w + (n * (x / w) % w * w + n * (x % w)) / (w * w) ≡ n * x / (w * w)
-share-whole n x w h = rw (digits-product n x w) (sym (mul-add-div-right (mul-le-mul h h) _ _))
+-- q² in parts of 2^k, to level 14: a third of it is so many of them
+pub squareThird : ℕ → ℕ
+squareThird k = 164794921875 * 2 ^ (maxLevel - k)
 
-pub share-rest : (n x w : ℕ) → (n * (x / w) % w * w + n * (x % w)) % (w * w) ≡ n * x % (w * w)
-share-rest n x w = rw (digits-product n x w) (sym (mul-add-mod-self-right _ (w * w) _))
+pub square-third : (k : ℕ) → k ≤ maxLevel → q * q / 3 ≡ squareThird k * 2 ^ k
+unfolding squareThird
+square-third k h =
+    let e = pow-add 2 (maxLevel - k) k in
+    let f : maxLevel - k + k ≡ maxLevel = omega arith in
+    ap (λ (x : ℕ). 164794921875 * x) (rw f at e) ∙ sym (mul-assoc 164794921875 (2 ^ (maxLevel - k)) (2 ^ k))
+
+square-parts : (k : ℕ) → k ≤ maxLevel → q * q ≡ q * q / 2 ^ k * 2 ^ k
+square-parts k h =
+    let e : q * q ≡ 3 * squareThird k * 2 ^ k = ap (λ (x : ℕ). 3 * x) (square-third k h) ∙ sym (mul-assoc 3 (squareThird k) (2 ^ k)) in
+    rw e (ap (λ (x : ℕ). x * 2 ^ k) (sym (mul-div-cancel (3 * squareThird k) {n = 2 ^ k} (pow-pos k))))
+
+-- n · x / q², n = 2^k: its whole part and its rest, by q² / n
+module _ (k x : ℕ) (h : k ≤ maxLevel) where
+  pub share-positive : 0 < q * q / 2 ^ k
+  share-positive = div-pos-of (q * q / 2 ^ k) refl
+    where
+      div-pos-of : (u : ℕ) → q * q / 2 ^ k ≡ u → 0 < u
+      div-pos-of zero e = absurd (omega (arith, square-parts k h, ap (λ (y : ℕ). y * 2 ^ k) e))
+      div-pos-of (suc u) e = omega arith
+
+  pub share-whole : x / (q * q / 2 ^ k) ≡ 2 ^ k * x / (q * q)
+  share-whole =
+      sym (ap (λ (y : ℕ). 2 ^ k * x / y) (square-parts k h) ∙ ap (λ (y : ℕ). y / (q * q / 2 ^ k * 2 ^ k)) (mul-comm (2 ^ k) x)
+      ∙ mul-div-mul-right x (q * q / 2 ^ k) (pow-pos k))
+
+  pub share-rest : x % (q * q / 2 ^ k) * 2 ^ k ≡ 2 ^ k * x % (q * q)
+  share-rest =
+      sym (ap (λ (y : ℕ). 2 ^ k * x % y) (square-parts k h) ∙ ap (λ (y : ℕ). y % (q * q / 2 ^ k * 2 ^ k)) (mul-comm (2 ^ k) x)
+      ∙ times-rest x (q * q / 2 ^ k) (2 ^ k) share-positive (pow-pos k))
+
+  pub share-fits : x % (q * q / 2 ^ k) * 2 ^ k < q * q
+  share-fits = rw share-rest (mod-lt (2 ^ k * x) (omega arith))
 
 -- ---- the frame of a position, as the code computes it
 
@@ -238,10 +269,7 @@ row-whole : (x w : ℕ) → 0 < w → x * w / (w * w) ≡ x / w
 row-whole x w h = mul-div-mul-right x w h
 
 row-rest : (x w : ℕ) → 0 < w → x * w % (w * w) ≡ x % w * w
-row-rest x w h =
-    let e : (x / w * w + x % w) * w ≡ x * w = ap (λ (y : ℕ). y * w) (div-add-mod' x w) in
-    let f : x * w ≡ x / w * (w * w) + x % w * w = omega arith in
-    rw (f, mul-add-mod-self-right (x / w) (w * w) (x % w * w)) (mod-eq-of-lt (mul-lt-mul-of-pos-right (mod-lt x h) h))
+row-rest x w h = times-rest x w w h h
 
 -- row and column with what is left over of both
 module _ (k p m n : ℕ) (e : n ≡ 2 ^ k) where

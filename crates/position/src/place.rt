@@ -24,19 +24,16 @@ struct Share {
     rest: u64,
 }
 
-// n · part / q², by the two digits of `part` in base q: the product itself can pass 64 bits.
-fn share_of(n: u64, part: u64) -> Share
-    requires { ⌜ (n ≤ 2 ^ maxLevel) × (part < q * q) ⌝ }
+// n · part / q², by q² / n, which is whole to level 14: the product itself can pass 64 bits.
+fn share_of(level: u32, n: u64, part: u64) -> Share
+    requires { ⌜ (level ≤ maxLevel) × (n ≡ 2 ^ level) × (part < q * q) ⌝ }
     ensures whole { λ r. ⌜ r .whole ≡ n * part / (q * q) ⌝ }
     ensures rest { λ r. ⌜ r .rest ≡ n * part % (q * q) ⌝ }
 {
-    let high = n * (part / QUARTER);
-    let low = high % QUARTER * QUARTER + n * (part % QUARTER);
-    let whole = high / QUARTER + low / SQUARE;
-    Share {
-        whole,
-        rest: low % SQUARE,
-    }
+    let unit = SQUARE >> level;
+    let whole = part / unit;
+    let rest = part % unit * n;
+    Share { whole, rest }
 }
 
 // The place of a position below the pole: the whole parts of T and R are row and column, and what is left over of both tells up from down.
@@ -46,7 +43,7 @@ fn holder_of(level: u32, octant: u32, p: u64, m: u64) -> Place
 {
     let n = rows_of(level);
     let high = n * p;
-    let r = share_of(n, m * (QUARTER - p));
+    let r = share_of(level, n, m * (QUARTER - p));
     let row = (high / QUARTER) as u32;
     let col = r.whole as u32;
     if high % QUARTER * QUARTER + r.rest < SQUARE {

@@ -1,115 +1,94 @@
--- `ascend` meets its contract. The invariant: with `done` digits taken off, they are the number `digits` below 4^done, and the place's digits
--- are those of what is left, above them.
--- The measure is the number of digits left. Assumes nothing.
-use Prim.Native.Nat.{_≤_, _<_, _-_, _+_, _*_, _^_}
-use mathlib.Core.Path.{_≡_, refl, ap}
-use native.Mathlib.Numerals.{add-one}
+-- `ascend` meets its contract: its bits are those of the digits, which stand below the octant. Assumes nothing.
+use Prim.Native.Nat.{_*_, _-_, _%_, _^_, _≤_, _<_}
+use mathlib.Core.Path.{_≡_, _∙_}
+use native.Mathlib.Nat.{le-refl}
 use native.Mathlib.Omega.{arith}
-use native.Mathlib.Nat.{pow-le-pow-right, pow-suc, sub-zero}
-use lib.Arith.{digits-lt}
-use Rattle.cell.specs.Cell as Cell
-use Rattle.cell.specs.Cell.{placeOf, number, maxLevel}
-use Rattle.cell.proofs.Laws.{digits-more, digit-small, digit-weight}
+use borrow.Author.Needs.{needs}
+use lib.Bits.{or-shifted, xor-lt, and-lt, or-lt}
+use lib.Pow.{pow-pos, pow-mono, ones-lt, shl-exact}
+use Rattle.cell.specs.Cell.{placeOf, span, digits, number, maxLevel}
+use Rattle.cell.proofs.Laws.{shifted, shift-four, frame-bounds, digits-below}
+use Rattle.cell.proofs.DigitBits.{digits-bits-16}
 use Rattle.cell.proofs.ascend.Statement.{statement}
 use Rattle.cell.proofs.ascend.Tie as tie
 
-abbrev Inv-loop : tie.InvT-loop
-Inv-loop level octant low₀ digits₀ weight₀ done₀ low digits weight done =
-    (done ≤ level)
-    × (weight ≡ 4 ^ done)
-    × (digits < weight)
-    × (Cell.digits (level - done) (placeOf low .1) * weight + digits ≡ Cell.digits level (placeOf low₀ .1))
+cast-row : tie.Need-cast-row
+cast-row c = search needs
 
-abbrev μ-loop : tie.MeasureT-loop
-μ-loop level octant low₀ digits₀ weight₀ done₀ low digits weight done = level - done
+cast-col : tie.Need-cast-col
+cast-col c = search needs
 
-loop-holds : tie.Need-loop-holds Inv-loop μ-loop
-loop-holds c = (omega arith, refl, omega arith, rw sub-zero (omega arith))
+shl-all : tie.Need-shl-all
+shl-all c = search needs
 
-as-child-requires : tie.Need-as-child-requires Inv-loop μ-loop
-as-child-requires c κs = tt
+sub-all : tie.Need-sub-all
+sub-all c =
+    let k = c .before .before .args .level in
+    rw (shifted 64 k (omega arith)) (pow-pos k)
 
--- a digit is below 4, the sum with it at its weight stays below the next weight, and a weight still to come is at most 4^13
-room : (c : tie.After-as-child Inv-loop μ-loop) →
-    let l = c .before .before .loop in
-    let d = c .as-child .result .1 in
-    (d < 4) × (l .digits + d * l .weight < 4 * l .weight) × (l .weight ≤ 4 ^ 13)
-room c =
-    let l = c .before .before .loop in
-    let f = placeOf (l .low) .1 in (
-      rw (c .as-child .ensures .1) (digit-small f),
-      rw (c .as-child .ensures .1) (digit-weight f (l .weight) (l .digits) (l .inv .2)),
-      rw (l .inv .1) (pow-le-pow-right {n = 4} (omega arith) {i = l .done} {j = 13} (omega arith)),
-    )
+span-of-requires : tie.Need-span-of-requires
+span-of-requires c κs = search needs
 
-mul-digits : tie.Need-mul-digits Inv-loop μ-loop
-mul-digits c = omega (arith, room c)
+-- what the bits are made of fits 16 bits
+record Small (c : tie.After-span-of) : Type 0 where
+  pub all : 1 * 2 ^ c .before .before .before .args .level % 2 ^ 64 - 1 < 2 ^ 16
+  pub sum : c .span-of .result - 1 < 2 ^ 16
+  pub row : c .before .before .before .args .place .row < 2 ^ 16
+  pub col : c .before .before .before .args .place .col < 2 ^ 16
 
-add-digits : tie.Need-add-digits Inv-loop μ-loop
-add-digits c = omega (arith, room c)
+sub-crossed : tie.Need-sub-crossed
+sub-crossed c =
+    let p = c .before .before .before .args .place in
+    let s = span (placeOf p .1) in
+    rw (c .span-of .ensures) (omega (arith, frame-bounds (p .kind) (p .row) (p .col) s (le-refl s)))
 
-mul-weight : tie.Need-mul-weight Inv-loop μ-loop
-mul-weight c = omega (arith, room c)
+small : (c : tie.After-span-of) → Small c
+small c =
+    let k = c .before .before .before .args .level in
+    let p = c .before .before .before .args .place in
+    let s = c .before .before .before .pre .1 .1 in
+    let b = frame-bounds (p .kind) (p .row) (p .col) (2 ^ k) s in
+    let m : 2 ^ k ≤ 2 ^ maxLevel = pow-mono {i = k} {j = maxLevel} (omega arith) in
+    record {
+      all = rw (shifted 64 k (omega arith)) (omega (arith, ones-lt k));
+      sum = rw (c .span-of .ensures) (omega arith);
+      row = omega arith;
+      col = omega arith;
+    }
 
-add-done : tie.Need-add-done Inv-loop μ-loop
-add-done c = omega arith
+mul-result : tie.Need-mul-result
+mul-result c = search needs
 
-loop-less : tie.Need-loop-less Inv-loop μ-loop
-loop-less c = omega arith
+shl-result : tie.Need-shl-result
+shl-result c = search needs
 
-loop-again : tie.Need-loop-again Inv-loop μ-loop
-loop-again c =
-    let s = c .before in
-    let l = s .before .before .loop in
-    let k = s .before .before .before .args .level in
-    let p = ap (λ (q : Cell.Place). q .1) (s .as-child .ensures .0) in
-    let f = placeOf (l .low) .1 in (
-      omega arith,
-      rw add-one (omega (arith, pow-suc 4 (l .done))),
-      omega (arith, room s),
-      rw (add-one, p, s .as-child .ensures .1, digits-more k (l .done) f (l .weight) (l .digits) (omega arith)) (l .inv .3),
-    )
+join-requires : tie.Need-join-requires
+join-requires c κs =
+    let s = small c in
+    (search (xor-lt 16, and-lt 16, or-lt 16), search (xor-lt 16, and-lt 16, or-lt 16))
 
--- after the loop the octant above the digits stays below 8 × 4^maxLevel
-whole : (c : tie.After-loop Inv-loop μ-loop) →
-    let l = c .before .loop in
-    (c .before .before .args .place .octant * l .weight + l .digits < 8 * l .weight) × (l .weight ≤ 4 ^ maxLevel)
-whole c =
-    let l = c .before .loop in (
-      digits-lt (c .before .before .pre .1 .0) (l .inv .2),
-      rw (l .inv .1) (pow-le-pow-right {n = 4} (omega arith) {i = l .done} {j = maxLevel} (omega arith)),
-    )
-
-mul-result : tie.Need-mul-result Inv-loop μ-loop
-mul-result c = omega (arith, whole c)
-
-add-result : tie.Need-add-result Inv-loop μ-loop
-add-result c = omega (arith, whole c)
-
-returns : tie.Need-returns Inv-loop μ-loop
-unfolding number Cell.digits
+returns : tie.Need-returns
+unfolding number
 returns c =
-    let l = c .before .loop in
-    let a = c .before .before .args in
-    let e : l .done ≡ a .level = omega arith in
-    let z : a .level - l .done ≡ 0 = omega arith in
-    let d : l .digits ≡ Cell.digits (a .level) (placeOf (a .place) .1) = omega (arith, rw z at (l .inv .3)) in
-    rw (d, l .inv .1, e)
+    let a = c .before .before .before .before .args in
+    let o = c .before .before .before .before .pre .1 in
+    let k = a .level in
+    let p = a .place in
+    let d : c .join .result ≡ digits k (placeOf p .1) = c .join .ensures ∙ rw (shifted 64 k (omega arith), c .before .span-of .ensures) (digits-bits-16 k (p .kind) (p .row) (p .col) (omega arith) (o .1)) in
+    rw (d, shl-exact {a = p .octant} 3 (2 * k) 32 (o .0) (omega arith), ← (shift-four k))
+    (or-shifted (p .octant) (2 * k) _ (rw (shift-four k) (digits-below k (placeOf p .1))))
 
 pub ascend-spec : {M : Type 1} → statement M
 ascend-spec =
     tie.close
     (tie.spec
-    Inv-loop
-    μ-loop
-    loop-holds
-    as-child-requires
-    mul-digits
-    add-digits
-    mul-weight
-    add-done
-    loop-less
-    loop-again
+    cast-row
+    cast-col
+    shl-all
+    sub-all
+    span-of-requires
+    sub-crossed
     mul-result
-    add-result
+    shl-result
+    join-requires
     returns)

@@ -1,91 +1,101 @@
--- `descend` meets its contract. The invariant: with `left` digits still to come, the place is the one that the digits above them lead to.
--- The measure is `left`. Assumes nothing.
-use Prim.Native.Nat.{suc, _≤_, _-_, _/_, _^_}
-use mathlib.Core.Path.{_≡_, ap, _∙_}
+-- `descend` meets its contract: its bits are those of the frame that the digits lead to. Assumes nothing.
+use Prim.Native.Nat.{ℕ, _*_, _-_, _/_, _%_, _^_, _≤_, _<_}
+use mathlib.Core.Path.{_≡_, sym, ap, _∙_}
+use native.Mathlib.Nat.{mod-lt}
 use native.Mathlib.Omega.{arith}
-use native.Mathlib.Nat.{le-trans, sub-zero, pow-zero, div-one}
-use lib.Pow.{pow-mono}
 use borrow.Author.Needs.{needs}
-use Rattle.cell.specs.Cell.{Place, placeOf, place, frame, span, maxLevel}
-use Rattle.cell.proofs.Laws.{shift-four, frame-bounds, frame-more, frame-span}
+use lib.Bits.{bitOr, bitXor, xor-lt, and-lt, or-lt}
+use lib.Pow.{pow-pos, ones-lt}
+use Rattle.cell.specs.Cell.{Frame, place, maxLevel}
+use Rattle.cell.proofs.Laws.{shifted, shift-four}
+use Rattle.cell.proofs.FrameBits.{kindAt, frame-bits-16}
 use Rattle.cell.proofs.descend.Statement.{statement}
 use Rattle.cell.proofs.descend.Tie as tie
 
-abbrev Inv-loop : tie.InvT-loop
-Inv-loop level cell place₀ left₀ place left =
-    (left ≤ level) × (placeOf place ≡ (cell / 4 ^ level, frame (level - left) (cell / 4 ^ left)))
+mul-octant : tie.Need-mul-octant
+mul-octant c = search needs
 
-abbrev μ-loop : tie.MeasureT-loop
-μ-loop level cell place₀ left₀ place left = left
+shr-octant : tie.Need-shr-octant
+shr-octant c = search needs
 
-mul-up : tie.Need-mul-up Inv-loop μ-loop
-mul-up c = omega arith
+shl-side : tie.Need-shl-side
+shl-side c = search needs
 
-shr-up : tie.Need-shr-up Inv-loop μ-loop
-shr-up c = omega arith
+-- N as the code shifts it
+side : (k : ℕ) → k ≤ maxLevel → 1 * 2 ^ k % 2 ^ 32 ≡ 2 ^ k
+side k h = shifted 32 k (omega arith)
 
-up-requires : tie.Need-up-requires Inv-loop μ-loop
+side-pos : (k : ℕ) → k ≤ maxLevel → 0 < 1 * 2 ^ k % 2 ^ 32
+side-pos k h = rw (side k h) (pow-pos k)
+
+sub-all : tie.Need-sub-all
+sub-all c = side-pos (c .args .level) (c .pre)
+
+split-requires : tie.Need-split-requires
+split-requires c κs = search needs
+
+rem-high : tie.Need-rem-high
+rem-high c = side-pos (c .before .before .args .level) (c .before .before .pre)
+
+rem-low : tie.Need-rem-low
+rem-low c = side-pos (c .before .before .before .args .level) (c .before .before .before .pre)
+
+odd-from-requires : tie.Need-odd-from-requires
+odd-from-requires c κs = search needs
+
+up-requires : tie.Need-up-requires
 up-requires c κs = search needs
 
-loop-holds : tie.Need-loop-holds Inv-loop μ-loop
-unfolding frame
-loop-holds c =
-    let a = c .before .args in
-    let z : a .level - a .level ≡ 0 = omega arith in
-    (omega arith, c .up .ensures ∙ rw (shift-four, z))
+down-requires : tie.Need-down-requires
+down-requires c κs = search needs
 
-sub-left : tie.Need-sub-left Inv-loop μ-loop
-sub-left c = omega arith
+-- what the bits are made of fits the level's
+bounds : (h l k : ℕ) → k ≤ maxLevel →
+    let n = 1 * 2 ^ k % 2 ^ 32 in
+    (n - 1 < 2 ^ k) × (h % n < 2 ^ k) × (l % n < 2 ^ k)
+bounds h l k le = rw (side k le) (ones-lt k, mod-lt h (pow-pos k), mod-lt l (pow-pos k))
 
-mul-child-of : tie.Need-mul-child-of Inv-loop μ-loop
-mul-child-of c = omega arith
-
-shr-child-of : tie.Need-shr-child-of Inv-loop μ-loop
-shr-child-of c = omega arith
-
-child-of-requires : tie.Need-child-of-requires Inv-loop μ-loop
-child-of-requires c κs =
-    let l = c .before .loop in
-    let a = c .before .before .before .args in
-    let m : 2 ^ (a .level - l .left) ≤ 2 ^ maxLevel = pow-mono {i = a .level - l .left} {j = maxLevel} (omega arith) in
-    let f = frame-span (a .level - l .left) (a .cell / 4 ^ l .left) in
-    let s : span (placeOf (l .place) .1) ≤ 2 ^ maxLevel = rw (ap (λ (q : Place). q .1) (l .inv .1)) (le-trans f m) in
-    let b = frame-bounds (l .place .kind) (l .place .row) (l .place .col) (2 ^ maxLevel) s in
-    omega arith
-
-loop-less : tie.Need-loop-less Inv-loop μ-loop
-loop-less c = omega arith
-
-loop-again : tie.Need-loop-again Inv-loop μ-loop
-loop-again c =
-    let l = c .before .before .loop in
+-- the place, by the bits as the code has them
+led : (c : tie.After-odd-from) →
     let a = c .before .before .before .before .args in
-    let e : l .left ≡ suc (l .left - 1) = omega arith in
-    let o = ap (λ (q : Place). q .0) (l .inv .1) in
-    let f = rw e at (ap (λ (q : Place). q .1) (l .inv .1)) in
-    (omega arith, c .child-of .ensures ∙ rw (o, f, shift-four, frame-more (a .level) (l .left - 1) (a .cell) (omega arith)))
-
-returns : tie.Need-returns Inv-loop μ-loop
+    let n = 1 * 2 ^ a .level % 2 ^ 32 in
+    let h = c .before .before .before .split .result .high % n in
+    let l = c .before .before .before .split .result .low % n in
+    let d = c .odd-from .result in
+    place (a .level) (a .cell) ≡ (a .cell / 2 ^ (2 * a .level), kindAt (d % 2) (bitXor (bitXor (n - 1) h) d) (bitXor (bitXor (n - 1) l) (bitOr h d)))
 unfolding place
-returns c =
-    let l = c .before .loop in
-    let z : l .left ≡ 0 = omega arith in
-    rw (sub-zero, pow-zero, div-one) at (rw z at (l .inv .1))
+led c =
+    let s = c .before .before .before in
+    let k = s .before .args .level in
+    let n = s .before .args .cell in
+    let e = side k (s .before .pre) in
+    let h = s .split .ensures .0 in
+    let l = s .split .ensures .1 in
+    let x = bounds (s .split .result .high) (s .split .result .low) k (s .before .pre) in
+    let d = c .odd-from .ensures k (omega arith) (search (xor-lt k, and-lt k, or-lt k)) in
+    rw (shift-four k, d, e, h, l) (ap (λ (g : Frame). (n / 4 ^ k, g)) (frame-bits-16 k n (omega arith)))
+
+returns : tie.Need-returns
+returns c = c .up .ensures ∙ sym (rw (c .before .if1 .taken) at (led (c .before .before)))
+
+returns-2 : tie.Need-returns-2
+returns-2 c =
+    let odd : c .before .before .odd-from .result % 2 ≡ 1 = omega arith in
+    c .down .ensures ∙ sym (rw odd at (led (c .before .before)))
 
 pub descend-spec : {M : Type 1} → statement M
 descend-spec =
     tie.close
     (tie.spec
-    Inv-loop
-    μ-loop
-    mul-up
-    shr-up
+    mul-octant
+    shr-octant
+    shl-side
+    sub-all
+    split-requires
+    rem-high
+    rem-low
+    odd-from-requires
     up-requires
-    loop-holds
-    sub-left
-    mul-child-of
-    shr-child-of
-    child-of-requires
-    loop-less
-    loop-again
-    returns)
+    down-requires
+    returns
+    returns-2)

@@ -3,13 +3,12 @@ use Prim.Native.Nat.{ℕ, _*_, _^_, _<_}
 use mathlib.Core.Path.{_≡_, sym, ap, subst, _∙_}
 use mathlib.Core.List.{List}
 use mathlib.Core.Bool.{not}
-use native.Mathlib.Nat.{le-of-eq}
 use borrow.Author.Needs.{needs}
-use lib.ListN.{length}
+use lib.ListN.{length, replicate}
 use Rattle.bitset.specs.Bits.{marked}
 use Rattle.bitset.proofs.Outside.{complement-marks}
 use Rattle.grow.proofs.Bytes.{copied}
-use Rattle.grow.proofs.Growth.{shrunk-bytes}
+use Rattle.grow.proofs.Shrinking.{shrunk-bytes}
 use Rattle.grow.proofs.shrink_into.Statement.{statement}
 use Rattle.grow.proofs.shrink_into.Tie as tie
 
@@ -25,8 +24,11 @@ entry c = c .before .before .before .before .before
 abbrev first : tie.After-complement → tie.After-copy
 first c = c .before .before .before .before
 
-abbrev turned : tie.After-copy2 → tie.After-complement
-turned c = c .before .before .before .before .before
+abbrev turned : tie.After-spread → tie.After-complement
+turned c = c .before .before .before .before
+
+abbrev reached : tie.After-complement2 → tie.After-spread
+reached c = c .before .before .before .before
 
 -- what is copied first is the mask
 written : (c : tie.After-copy) → c .copy .last .1 .0 ≡ entry c .args .mask .now
@@ -44,21 +46,14 @@ outside c = subst
 long : (c : tie.After-complement) → length (c .complement .last .0) ≡ 4 ^ entry (first c) .args .level
 long c = c .complement .kept .0 ∙ ap length (written (first c)) ∙ entry (first c) .pre .1
 
-copy-requires-2 : tie.Need-copy-requires-2
-copy-requires-2 c κs = let d = c .before .before .before .before in le-of-eq (long d ∙ sym (entry (first d) .pre .3))
-
-working : (c : tie.After-copy2) → c .copy2 .last .1 .0 ≡ turned c .complement .last .0
-working c =
-    let h = entry (first (turned c)) in
-    copied _ (h .args .work .now) _ (long (turned c) ∙ sym (h .pre .3)) (c .copy2 .ensures .1)
-
 spread-requires : tie.Need-spread-requires
-spread-requires c κs =
-    let d = c .before .before .before .before in
-    (entry (first (turned d)) .pre .0, long (turned d), working d)
+spread-requires c κs = let d = c .before .before .before in (entry (first d) .pre .0, long d)
 
 complement-requires-2 : tie.Need-complement-requires-2
 complement-requires-2 c κs = search needs
+
+clear-requires : tie.Need-clear-requires
+clear-requires c κs = search needs
 
 same-length : tie.Need-same-length
 same-length c = search needs
@@ -66,21 +61,19 @@ same-length c = search needs
 same-length-2 : tie.Need-same-length-2
 same-length-2 c = search needs
 
-abbrev reached : tie.After-complement2 → tie.After-spread
-reached n = n .before .before .before .before .before .before
-
 returns : tie.Need-returns
 returns c =
-    let s = reached (c .before .before) in
-    let d = turned (s .before .before .before .before .before) in
+    let w = c .before .before in
+    let n = w .before .before .before .before in
+    let s = reached n in
+    let d = turned s in
     let e = entry (first d) in
     let a = e .args in
-    let n = c .before .before .complement2 in
     let l = s .spread .kept .1 .1 .0 ∙ long d in
-    let out = complement-marks _ _ (n .ensures) in (
-      shrunk-bytes (a .level) (a .rings) (a .mask .now) _ _ _ (e .pre .1) l (n .kept .0 ∙ l)
-          (λ i. c .slice-known8 .given i .fits) (outside d) (s .spread .ensures .0) out,
-      s .spread .ensures .1,
+    let out = complement-marks _ _ (n .complement2 .ensures) in (
+      shrunk-bytes (a .level) (a .rings) (a .mask .now) _ _ _ (e .pre .1) l (n .complement2 .kept .0 ∙ l)
+          (λ i. w .before .before .slice-known6 .given i .fits) (outside d) (s .spread .ensures) out,
+      w .clear .ensures ∙ ap (λ (n : ℕ). replicate n 0) (e .pre .3),
     )
 
 pub shrink-into-spec : {M : Type 1} → statement M
@@ -89,9 +82,9 @@ shrink-into-spec =
     (tie.spec
     copy-requires
     complement-requires
-    copy-requires-2
     spread-requires
     complement-requires-2
+    clear-requires
     same-length
     same-length-2
     returns)

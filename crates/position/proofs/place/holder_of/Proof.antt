@@ -34,7 +34,7 @@ mul-share-of : tie.Need-mul-share-of
 mul-share-of c = omega (arith, room c .1)
 
 share-of-requires : tie.Need-share-of-requires
-share-of-requires c κs = (omega arith, omega (arith, room c .1))
+share-of-requires c κs = (c .before .pre .0, c .rows-of .ensures .0, omega (arith, room c .1))
 
 cast-row : tie.Need-cast-row
 cast-row c = omega (arith, room (c .before) .0)

@@ -1,40 +1,29 @@
--- `share_of` meets its contract. Both digits of the part in base q are below q, so nothing passes 64 bits; the law says that the digits' sums are
--- the whole part and the rest.
--- Assumes nothing.
+-- `share_of` meets its contract: q² is a whole number of parts of 2^level. Assumes nothing.
+use Prim.Native.Nat.{_*_, _/_, _%_, _^_, _<_}
+use mathlib.Core.Path.{_≡_, sym, ap, _∙_}
 use borrow.Author.Needs.{needs}
-use Prim.Native.Nat.{_*_, _/_, _%_, _^_, _≤_}
-use native.Mathlib.Nat.{mul-le-mul}
 use native.Mathlib.Omega.{arith}
-use Rattle.cell.specs.Cell.{maxLevel}
 use Rattle.position.specs.Position.{q}
-use Rattle.position.proofs.Laws.{share-whole, share-rest}
+use Rattle.position.proofs.Laws.{share-positive, share-whole, share-rest, share-fits}
 use Rattle.position.proofs.place.share_of.Statement.{statement}
 use Rattle.position.proofs.place.share_of.Tie as tie
 
--- both digits of the part are below q
-room : (c : tie.Start) → (c .args .n * (c .args .part / q) ≤ 2 ^ maxLevel * q) × (c .args .n * (c .args .part % q) ≤ 2 ^ maxLevel * q)
-room c =
-    let h : c .args .part / q ≤ q = omega arith in
-    let l : c .args .part % q ≤ q = omega arith in
-    (mul-le-mul (c .pre .0) h, mul-le-mul (c .pre .0) l)
+shr-unit : tie.Need-shr-unit
+shr-unit c = search needs
 
-mul-high : tie.Need-mul-high
-mul-high c = omega (arith, room c)
+div-whole : tie.Need-div-whole
+div-whole c = share-positive (c .args .level) (c .args .part) (c .pre .0)
 
-mul-low : tie.Need-mul-low
-mul-low c = search needs
+rem-rest : tie.Need-rem-rest
+rem-rest c = share-positive (c .args .level) (c .args .part) (c .pre .0)
 
-mul-low-2 : tie.Need-mul-low-2
-mul-low-2 c = omega (arith, room c)
-
-add-low : tie.Need-add-low
-add-low c = omega (arith, room c)
-
-add-whole : tie.Need-add-whole
-add-whole c = omega (arith, room c)
+mul-rest : tie.Need-mul-rest
+mul-rest c = rw (c .pre .1) (omega (arith, share-fits (c .args .level) (c .args .part) (c .pre .0)))
 
 returns : tie.Need-returns
-returns c = (share-whole (c .args .n) (c .args .part) q (omega arith), share-rest (c .args .n) (c .args .part) q)
+returns c =
+    let a = c .args in
+    rw (c .pre .1) (share-whole (a .level) (a .part) (c .pre .0), share-rest (a .level) (a .part) (c .pre .0))
 
 pub share-of-spec : {M : Type 1} → statement M
-share-of-spec = tie.close (tie.spec mul-high mul-low mul-low-2 add-low add-whole returns)
+share-of-spec = tie.close (tie.spec shr-unit div-whole rem-rest mul-rest returns)

@@ -1,0 +1,100 @@
+-- `put_cell` meets its contract: the set of one cell is at its spot, in the rows of its kind. Assumes nothing.
+use Prim.Native.Nat.{ℕ}
+use mathlib.Core.Path.{_≡_, sym, ap, _∙_}
+use mathlib.Core.Bool.{_&&_, _||_, or-false}
+use mathlib.Core.List.{List}
+use native.Mathlib.Omega.{arith}
+use borrow.Author.Needs.{needs}
+use lib.Dec.{eqb}
+use Rattle.refusal.proofs.Answers.{given≢refused}
+use Rattle.cell.specs.declared.Kind.{Kind}
+use Rattle.cell.specs.declared.Kind.the-variants.{Up, Down}
+use Rattle.cell.specs.Cell.{placeOf, saidPlace, frameOf}
+use Rattle.cell.proofs.Answers.{Given, given-place, accepts}
+use Rattle.rows.specs.Rows.{lit, spot}
+use Rattle.raster.specs.inside.Pieces.{Added}
+use Rattle.raster.proofs.Held.{place-small, kind-told, sameKind, one-added}
+use Rattle.raster.proofs.cells.put_cell.Statement.{statement}
+use Rattle.raster.proofs.cells.put_cell.Tie as tie
+
+place-of-requires : tie.Need-place-of-requires
+place-of-requires c κs = search needs
+
+enum-known-place : tie.Need-enum-known-place
+enum-known-place c = search needs
+
+abbrev entry : tie.After-place → tie.Start
+entry c = c .before .before .before
+
+-- where the cell lies
+known : (c : tie.After-place) → Given (entry c .args .level) (entry c .args .cell) (placeOf (c .place .given .0 .0))
+known c = given-place _ _ _ (rw (c .place .given .1) at (c .before .before .place-of .ensures))
+
+spot-of-requires : tie.Need-spot-of-requires
+spot-of-requires c κs =
+    let p = c .before .place .given .0 .0 in
+    place-small (entry (c .before) .args .level) (p .kind) (p .octant) (p .row) (p .col) (omega arith) (known (c .before) .occurs)
+
+enum-told : tie.Need-enum-told
+enum-told c = search needs
+
+set-bit-requires : tie.Need-set-bit-requires
+set-bit-requires c κs = search needs
+
+enum-told-2 : tie.Need-enum-told-2
+enum-told-2 c = search needs
+
+set-bit-requires-2 : tie.Need-set-bit-requires-2
+set-bit-requires-2 c κs = search needs
+
+enum-told-3 : tie.Need-enum-told-3
+enum-told-3 c = search needs
+
+-- what is set at the cell's spot, in the rows of its kind and in those of the other
+at-spot : (n : tie.After-place) (t : Kind) → n .place .given .0 .0 .kind ≡ t → (s : Kind) (q r : List ℕ) →
+    let p = n .place .given .0 .0 in
+    ((i : ℕ) → lit r i ≡ (lit q i || (sameKind s t && eqb i (spot (p .octant) (p .row) (p .col))))) →
+    Added (frameOf s) (entry n .args .level) (eqb (entry n .args .cell)) q r
+at-spot n t e s q r f =
+    let a = entry n .args in
+    let p = n .place .given .0 .0 in
+    let g = kind-told (a .level) (a .cell) (p .octant) (p .row) (p .col) (p .kind) t e (known n) in
+    one-added (a .level) s t (a .cell) (p .octant) (p .row) (p .col) q r (entry n .pre .0) g f
+
+returns : tie.Need-returns
+returns c =
+    let s = c .before .before .before .before in
+    let n = s .before .before in
+    let a = entry n .args in
+    let at = at-spot n Up (c .before .before .enum-told .given .1) in
+    (at Up (a .up .now) _ (λ i. c .set-bit .ensures i ∙ rw (s .spot-of .ensures .0)), at Down (a .down .now) _ (λ i. sym (or-false _)))
+
+returns-2 : tie.Need-returns-2
+returns-2 c =
+    let s = c .before .before .before .before in
+    let n = s .before .before in
+    let a = entry n .args in
+    let at = at-spot n Down (c .before .before .enum-told2 .given .1) in
+    (at Up (a .up .now) _ (λ i. sym (or-false _)), at Down (a .down .now) _ (λ i. c .set-bit2 .ensures i ∙ rw (s .spot-of .ensures .0)))
+
+returns-3 : tie.Need-returns-3
+returns-3 c =
+    let e = c .before .before .before in
+    let a = e .args in
+    given≢refused (accepts (a .level) (a .cell) _ (omega arith) (e .pre .1) ∙ sym (c .before .before .place-of .ensures) ∙ ap saidPlace (c .enum-told3 .given .1))
+
+pub put-cell-spec : {M : Type 1} → statement M
+put-cell-spec =
+    tie.close
+    (tie.spec
+    place-of-requires
+    enum-known-place
+    spot-of-requires
+    enum-told
+    set-bit-requires
+    enum-told-2
+    set-bit-requires-2
+    enum-told-3
+    returns
+    returns-2
+    returns-3)

@@ -1,0 +1,69 @@
+-- `to_rows` meets its contract: the rows are cleared and the marked cells set, where the slice is a mask of the level. Assumes nothing.
+use mathlib.Core.Path.{_≡_, sym, ap, _∙_}
+use borrow.Author.Needs.{needs}
+use lib.ListN.{length}
+use Rattle.refusal.specs.Answer.{given, done}
+use Rattle.bitset.specs.Bits.{marked}
+use Rattle.cell.specs.declared.Kind.the-variants.{Up, Down}
+use Rattle.mask.specs.Mask.{saidMask, maskCall}
+use Rattle.mask.proofs.Answers.{is-mask}
+use Rattle.raster.proofs.Answers.{passed-is, refused-is, all-added}
+use Rattle.raster.proofs.to_rows.Statement.{statement}
+use Rattle.raster.proofs.to_rows.Tie as tie
+
+is-mask-requires : tie.Need-is-mask-requires
+is-mask-requires c κs = search needs
+
+enum-told : tie.Need-enum-told
+enum-told c = search needs
+
+clear-requires : tie.Need-clear-requires
+clear-requires c κs = search needs
+
+clear-requires-2 : tie.Need-clear-requires-2
+clear-requires-2 c κs = search needs
+
+-- the slice is a mask of the level
+fits : (c : tie.After-enum-told) → let a = c .before .before .before .before .args in given done ≡ maskCall (a .level) (a .mask .now)
+fits c = sym (ap saidMask (c .enum-told .given .1)) ∙ c .before .before .is-mask .ensures
+
+put-pieces-requires : tie.Need-put-pieces-requires
+put-pieces-requires c κs =
+    let t = c .before .before .before .before .before .before in
+    let a = t .before .before .before .before .args in
+    let m = is-mask (a .level) (a .mask .now) (fits t) in
+    (m .level, m .long)
+
+enum-told-2 : tie.Need-enum-told-2
+enum-told-2 c = search needs
+
+returns : tie.Need-returns
+returns c =
+    let p = c .put-pieces .ensures in
+    let k = c .before .before .before in
+    let t = k .before .before .before .before in
+    let a = t .before .before .before .before .args in
+    let m = passed-is (a .level) (a .mask .now) (fits t) in
+    let A = marked (a .mask .now) in (
+      (λ i. rw m (all-added Up (a .level) (length (a .up .now)) A _ _ (k .before .before .clear .ensures) (p .0) i)),
+      (λ i. rw m (all-added Down (a .level) (length (a .down .now)) A _ _ (k .clear2 .ensures) (p .1) i)),
+    )
+
+returns-2 : tie.Need-returns-2
+returns-2 c =
+    let a = c .before .before .before .before .args in
+    let m = refused-is (a .level) (a .mask .now) _ (sym (ap saidMask (c .enum-told2 .given .1)) ∙ c .before .before .is-mask .ensures) in
+    ((λ i. rw m), (λ i. rw m))
+
+pub to-rows-spec : {M : Type 1} → statement M
+to-rows-spec =
+    tie.close
+    (tie.spec
+    is-mask-requires
+    enum-told
+    clear-requires
+    clear-requires-2
+    put-pieces-requires
+    enum-told-2
+    returns
+    returns-2)

@@ -1,0 +1,69 @@
+-- `cells_of` meets its contract. The invariant: the words from 10 to before `w` are written. The measure is the number of words left. Assumes nothing.
+use Prim.Native.Nat.{_≤_, _-_}
+use mathlib.Core.Path.{_≡_}
+use native.Mathlib.Omega.{arith}
+use Rattle.rows.specs.Rows.{lit}
+use Rattle.stencil.specs.Stencil.{upOf, downOf}
+use Rattle.stencil.proofs.Loops.{Written, written-none, written-more}
+use Rattle.stencil.proofs.cells_of.Statement.{statement}
+use Rattle.stencil.proofs.cells_of.Tie as tie
+
+abbrev Inv-loop : tie.InvT-loop
+Inv-loop points up₀ down₀ w₀ up down w =
+    (10 ≤ w) × (w ≤ 10320) × Written 10 w (upOf (lit points)) up₀ up × Written 10 w (downOf (lit points)) down₀ down
+
+abbrev μ-loop : tie.MeasureT-loop
+μ-loop points up₀ down₀ w₀ up down w = 10320 - w
+
+loop-holds : tie.Need-loop-holds Inv-loop μ-loop
+loop-holds c = (omega arith, omega arith, written-none 10 _ (c .args .up .now), written-none 10 _ (c .args .down .now))
+
+up-word-requires : tie.Need-up-word-requires Inv-loop μ-loop
+up-word-requires c κs = omega arith
+
+put-requires : tie.Need-put-requires Inv-loop μ-loop
+put-requires c κs = omega arith
+
+down-word-requires : tie.Need-down-word-requires Inv-loop μ-loop
+down-word-requires c κs = omega arith
+
+put-requires-2 : tie.Need-put-requires-2 Inv-loop μ-loop
+put-requires-2 c κs = omega arith
+
+add-w : tie.Need-add-w Inv-loop μ-loop
+add-w c = omega arith
+
+loop-less : tie.Need-loop-less Inv-loop μ-loop
+loop-less c = omega arith
+
+loop-again : tie.Need-loop-again Inv-loop μ-loop
+loop-again c =
+    let d = c .before .before .before in
+    let l = d .before .before .before .before .loop in (
+      omega arith,
+      omega arith,
+      written-more (omega arith) (omega arith) (d .put .ensures) (d .before .up-word .ensures) (l .inv .2),
+      written-more (omega arith) (omega arith) (c .put2 .ensures) (c .before .down-word .ensures) (l .inv .3),
+    )
+
+returns : tie.Need-returns Inv-loop μ-loop
+returns c =
+    let l = c .before .loop in
+    let e : l .w ≡ 10320 = omega arith in
+    ((rw e at (l .inv .2)) .bits, (rw e at (l .inv .3)) .bits)
+
+pub cells-of-spec : {M : Type 1} → statement M
+cells-of-spec =
+    tie.close
+    (tie.spec
+    Inv-loop
+    μ-loop
+    loop-holds
+    up-word-requires
+    put-requires
+    down-word-requires
+    put-requires-2
+    add-w
+    loop-less
+    loop-again
+    returns)

@@ -1,0 +1,69 @@
+-- `inside_word` meets its contract: none before the rows and where row and column are too much, else as many ones as are left. Assumes nothing.
+use Prim.Native.Nat.{_*_, _%_, _^_, _≤_}
+use mathlib.Core.Path.{_≡_}
+use native.Mathlib.Omega.{arith}
+use lib.Pow.{pow-mono}
+use Rattle.bitset.proofs.Laws.{shifted}
+use Rattle.stencil.proofs.Level.{before-rows, past-sum, in-sum}
+use borrow.Author.Needs.{needs}
+use Rattle.stencil.proofs.words.inside_word.Statement.{statement}
+use Rattle.stencil.proofs.words.inside_word.Tie as tie
+
+-- the level's size, as the code shifts it
+size-is : (e : tie.Start) → 1 * 2 ^ (e .args .level) % 2 ^ 32 ≡ 2 ^ (e .args .level)
+size-is e = shifted 32 (e .args .level) (omega arith)
+
+returns : tie.Need-returns
+returns c = before-rows (c .before .args .level) (c .before .args .w) (omega arith)
+
+cast-at : tie.Need-cast-at
+cast-at c = search needs
+
+sub-first : tie.Need-sub-first
+sub-first c = search needs
+
+mul-first : tie.Need-mul-first
+mul-first c = search needs
+
+add-first : tie.Need-add-first
+add-first c = search needs
+
+shl-size : tie.Need-shl-size
+shl-size c = search needs
+
+returns-2 : tie.Need-returns-2
+returns-2 c =
+    let a = c .before .before .args in
+    let n = size-is (c .before .before) in
+    past-sum (a .level) (a .w) (omega arith) (omega arith) (omega arith)
+
+add-low-ones : tie.Need-add-low-ones
+add-low-ones c =
+    let k = c .before .before .args .level in
+    let n = size-is (c .before .before) in
+    let m : 2 ^ k ≤ 2 ^ 8 = pow-mono {i = k} {j = 8} (omega arith) in
+    omega arith
+
+low-ones-requires : tie.Need-low-ones-requires
+low-ones-requires c κs = search needs
+
+returns-3 : tie.Need-returns-3
+returns-3 c =
+    let a = c .before .before .before .args in
+    let n = size-is (c .before .before .before) in
+    in-sum (a .level) (a .w) (c .low-ones .result) (omega arith) (omega arith) (omega arith) (rw n at (c .low-ones .ensures))
+
+pub inside-word-spec : {M : Type 1} → statement M
+inside-word-spec =
+    tie.close
+    (tie.spec
+    returns
+    cast-at
+    sub-first
+    mul-first
+    add-first
+    shl-size
+    returns-2
+    add-low-ones
+    low-ones-requires
+    returns-3)

@@ -1,0 +1,92 @@
+-- `points_word` meets its contract: the words of the up cells here, of the last row and one place on, and those of the down cells, joined. Assumes nothing.
+use Prim.Native.Nat.{_-_}
+use mathlib.Core.Path.{ap}
+use native.Mathlib.Omega.{arith}
+use Rattle.rows.specs.Rows.{lit}
+use Rattle.stencil.specs.Stencil.{pointsOf}
+use Rattle.stencil.proofs.Shifts.{word-last, word-on, word-or, word-same}
+use borrow.Author.Needs.{needs}
+use Rattle.stencil.proofs.words.points_word.Statement.{statement}
+use Rattle.stencil.proofs.words.points_word.Tie as tie
+
+word-requires : tie.Need-word-requires
+word-requires c κs = search needs
+
+sub-word : tie.Need-sub-word
+sub-word c = search needs
+
+word-requires-2 : tie.Need-word-requires-2
+word-requires-2 c κs = search needs
+
+sub-word-2 : tie.Need-sub-word-2
+sub-word-2 c = search needs
+
+word-requires-3 : tie.Need-word-requires-3
+word-requires-3 c κs = search needs
+
+one-on-requires : tie.Need-one-on-requires
+one-on-requires c κs = search needs
+
+sub-word-3 : tie.Need-sub-word-3
+sub-word-3 c = search needs
+
+word-requires-4 : tie.Need-word-requires-4
+word-requires-4 c κs = search needs
+
+word-requires-5 : tie.Need-word-requires-5
+word-requires-5 c κs = search needs
+
+sub-word-4 : tie.Need-sub-word-4
+sub-word-4 c = search needs
+
+word-requires-6 : tie.Need-word-requires-6
+word-requires-6 c κs = search needs
+
+one-on-requires-2 : tie.Need-one-on-requires-2
+one-on-requires-2 c κs = search needs
+
+sub-word-5 : tie.Need-sub-word-5
+sub-word-5 c = search needs
+
+word-requires-7 : tie.Need-word-requires-7
+word-requires-7 c κs = search needs
+
+one-on-requires-3 : tie.Need-one-on-requires-3
+one-on-requires-3 c κs = search needs
+
+returns : tie.Need-returns
+unfolding pointsOf
+returns c =
+    let d = c .before .before in
+    let u = d .before .before .before .before in
+    let a = u .before .before .before .before .args in
+    let up-here = u .before .before .before .word .ensures in
+    let up-last = word-last {w = a .w} (omega arith) (u .before .before .word2 .ensures) in
+    let up-on = word-on (omega arith) (u .one-on .ensures) up-here (u .before .word3 .ensures) in
+    let down-last = word-last {w = a .w} (omega arith) (d .before .before .before .word4 .ensures) in
+    let down-on = word-on (omega arith) (d .one-on2 .ensures) (d .before .before .word5 .ensures) (d .before .word6 .ensures) in
+    let before = word-last {w = a .w - 1} (omega arith) (c .before .word7 .ensures) in
+    let both = word-on (omega arith) (c .one-on3 .ensures) down-last before in
+    let downs = word-or down-last (word-or down-on (word-same {Q = λ i. lit (a .down .now) (i - 321)} (λ i h. ap (lit (a .down .now)) (omega arith)) both)) in
+    word-or up-here (word-or up-last (word-or up-on downs))
+
+pub points-word-spec : {M : Type 1} → statement M
+points-word-spec =
+    tie.close
+    (tie.spec
+    word-requires
+    sub-word
+    word-requires-2
+    sub-word-2
+    word-requires-3
+    one-on-requires
+    sub-word-3
+    word-requires-4
+    word-requires-5
+    sub-word-4
+    word-requires-6
+    one-on-requires-2
+    sub-word-5
+    word-requires-7
+    one-on-requires-3
+    returns)

@@ -1,0 +1,2 @@
+pub mod Stencil
+pub mod inside
