@@ -20,7 +20,8 @@
 
    A slice to be written may hold anything before the call. No function takes memory from the heap
    or keeps anything between calls, so several threads may call at once, each with slices of its
-   own. ticklocust_fill needs some 64 KiB of stack, ticklocust_border_read some 16 KiB. */
+   own. ticklocust_grow and ticklocust_shrink need some 410 KiB of stack, ticklocust_fill some
+   330 KiB, ticklocust_border_read some 16 KiB. */
 #ifndef TICKLOCUST_H
 #define TICKLOCUST_H
 

@@ -1,6 +1,6 @@
-pub mod Opening
-pub mod Codes
 pub mod Connected
-pub mod Searching
+pub mod Beside
+pub mod Placing
+pub mod Reaching
 pub mod Answers
 pub mod Laws

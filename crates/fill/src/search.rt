@@ -1,122 +1,61 @@
-// The search from the outside cell. `out` marks the cells reached, and `seen` those of them whose open neighbours are reached too; the others wait.
-// The lowest cell that waits is seen next, so that no queue is needed and the search ends where none waits.
+// The search from the outside cell, in rows of bits.
 ghost use mathlib.Core.Path.{_≡_};
-ghost use mathlib.Core.Bool.{false};
-ghost use mathlib.Core.Logic.{_⊎_};
-ghost use Prim.Native.Nat.{_+_, _*_, _^_, _≤_, _<_};
+ghost use Prim.Native.Nat.{ℕ, _^_, _≤_, _<_};
 ghost use lib.Dec.{eqb};
 ghost use lib.ListN.{length};
-ghost use Rattle.bitset.specs.Bits.{marked, bytesOf};
-ghost use Rattle.cell.specs.Cell.{cells};
-ghost use Rattle.step.specs.Neighbours.{isDirect};
+ghost use Rattle.bitset.specs.Bits.{marked, bytesOf, outside};
+ghost use Rattle.cell.specs.declared.Kind.{Kind};
+ghost use Rattle.cell.specs.Cell.{frameOf, cells};
 ghost use Rattle.mask.specs.Mask.{maxMaskLevel};
+ghost use Rattle.raster.specs.Raster.{cellAt};
+ghost use Rattle.flood.specs.Flood.{litOf};
 ghost use Rattle.fill.specs.Fill.{reachable};
-ghost use Rattle.fill.specs.inside.Along.{along, Opened, Passed, Seen};
 use cell::CellNumber;
-use step::StepAnswer;
 
-// The number of codes.
-const CODES: u8 = 8;
-
-// Reaches a cell that the border does not mark. Answers the cell where it is new and below `low`, and otherwise `low`.
-fn reach_one(
+// Writes the cells that the border does not mark into rows, by way of `out`.
+fn open_cells(
     level: u32,
-    cell: CellNumber,
     border: &[u8],
     out: &mut [u8],
-    low: CellNumber,
-) -> CellNumber
-    requires { ⌜ (length (now out) ≡ 4 ^ level) × (cell < cells level) ⌝ }
-    ensures { λ r. ⌜ Opened level (eqb cell) (now (border .entry)) (now (out .entry)) (now (out .exit)) low r ⌝ }
+    up: &mut [u64; 10330],
+    down: &mut [u64; 10330],
+)
+    requires { ⌜ (level ≤ maxMaskLevel) × (length (now border) ≡ 4 ^ level) × (length (now out) ≡ 4 ^ level) ⌝ }
+    ensures { λ _. ⌜ ((t : Kind) (i : ℕ) →
+        litOf (now (up .exit)) (now (down .exit)) t i ≡ cellAt (frameOf t) level (outside (marked (now (border .entry)))) i) ⌝ }
 {
-    if bitset::is_marked(border, cell) {
-        return low;
-    }
-    if bitset::is_marked(out, cell) {
-        return low;
-    }
+    bytes::copy(border, out);
+    bitset::complement(out);
+    raster::to_rows(level, out, up, down);
+}
+
+// Writes one cell alone into rows, by way of `out`.
+fn one_cell(
+    level: u32,
+    cell: CellNumber,
+    out: &mut [u8],
+    up: &mut [u64; 10330],
+    down: &mut [u64; 10330],
+)
+    requires { ⌜ (level ≤ maxMaskLevel) × (length (now out) ≡ 4 ^ level) × (cell < cells level) ⌝ }
+    ensures { λ _. ⌜ ((t : Kind) (i : ℕ) → litOf (now (up .exit)) (now (down .exit)) t i ≡ cellAt (frameOf t) level (eqb cell) i) ⌝ }
+{
+    bitset::clear(out);
     bitset::mark(out, cell);
-    if cell < low { cell } else { low }
-}
-
-// Reaches the cell along a code, where the code is a direct one and the cell is open.
-fn reach_along(
-    level: u32,
-    cell: CellNumber,
-    code: u8,
-    border: &[u8],
-    out: &mut [u8],
-    low: CellNumber,
-) -> CellNumber
-    requires { ⌜ (level ≤ maxMaskLevel) × (length (now out) ≡ 4 ^ level) ⌝ }
-    ensures { λ r. ⌜ Opened level (along level cell code) (now (border .entry)) (now (out .entry)) (now (out .exit)) low r ⌝ }
-{
-    // The codes e and w lead to cells of the same kind, which are no direct neighbours.
-    if code == 3 {
-        return low;
-    }
-    if code == 4 {
-        return low;
-    }
-    match step::step_along(level, cell, code) {
-        StepAnswer::To(next) => reach_one(level, next, border, out, low),
-        StepAnswer::Refused(_) => low,
-    }
-}
-
-// Reaches the open direct neighbours of a cell. Answers the lowest of them that is new, or the cell after this one where that is lower.
-fn reach_neighbours(level: u32, cell: CellNumber, border: &[u8], out: &mut [u8]) -> CellNumber
-    requires { ⌜ (level ≤ maxMaskLevel) × (length (now out) ≡ 4 ^ level) × (cell < cells level) ⌝ }
-    ensures { λ r. ⌜ Opened level (isDirect level cell) (now (border .entry)) (now (out .entry)) (now (out .exit)) (cell + 1) r ⌝ }
-{
-    let mut low = cell + 1;
-    let mut code = 0;
-    while code < CODES {
-        low = reach_along(level, cell, code, border, out, low);
-        code += 1;
-    }
-    low
-}
-
-// Sees a cell where it waits, and otherwise passes it, with its byte where nothing of that waits. Answers the cell to visit next.
-fn visit(
-    level: u32,
-    cell: CellNumber,
-    border: &[u8],
-    out: &mut [u8],
-    seen: &mut [u8; 65536],
-) -> CellNumber
-    requires { ⌜ (level ≤ maxMaskLevel) × (length (now out) ≡ 4 ^ level) × (cell < cells level) ⌝ }
-    ensures { λ r. ⌜ Passed level (now (out .entry)) (now (seen .entry)) (now (out .exit)) (now (seen .exit)) cell r
-        ⊎ Seen level (now (border .entry)) (now (out .entry)) (now (seen .entry)) (now (out .exit)) (now (seen .exit)) cell r ⌝ }
-{
-    let at = (cell / 8) as usize;
-    if cell % 8 == 0 {
-        if out[at] == seen[at] {
-            return cell + 8;
-        }
-    }
-    if !bitset::is_marked(out, cell) {
-        return cell + 1;
-    }
-    if bitset::is_marked(seen, cell) {
-        return cell + 1;
-    }
-    bitset::mark(seen, cell);
-    reach_neighbours(level, cell, border, out)
+    raster::to_rows(level, out, up, down);
 }
 
 // Marks exactly the cells that the outside cell reaches.
 pub(crate) fn reach_all(level: u32, outside: CellNumber, border: &[u8], out: &mut [u8])
-    requires { ⌜ (level ≤ maxMaskLevel) × (length (now out) ≡ 4 ^ level) × (outside < cells level) ⌝ }
+    requires { ⌜ (level ≤ maxMaskLevel) × (length (now border) ≡ 4 ^ level) × (length (now out) ≡ 4 ^ level) × (outside < cells level) ⌝ }
     ensures { λ _. ⌜ now (out .exit) ≡ bytesOf (4 ^ level) (reachable level (marked (now (border .entry))) outside) ⌝ }
 {
-    let mut seen = [0u8; 65536];
-    bitset::clear(out);
-    bitset::mark(out, outside);
-    let end = 8 << (2 * level);
-    let mut cell = 0;
-    while cell < end {
-        cell = visit(level, cell, border, out, &mut seen);
-    }
+    let mut open_up = [0u64; 10330];
+    let mut open_down = [0u64; 10330];
+    open_cells(level, border, out, &mut open_up, &mut open_down);
+    let mut up = [0u64; 10330];
+    let mut down = [0u64; 10330];
+    one_cell(level, outside, out, &mut up, &mut down);
+    flood::flood(level, &open_up, &open_down, &mut up, &mut down);
+    raster::from_rows(level, &up, &down, out);
 }

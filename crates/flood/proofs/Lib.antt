@@ -1,0 +1,4 @@
+pub mod Turns
+pub mod Joining
+pub mod Crossing
+pub mod Left
