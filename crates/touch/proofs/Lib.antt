@@ -5,7 +5,11 @@ pub mod Ways
 pub mod Sorted
 pub mod Counts
 pub mod Collect
+pub mod Ranked
+pub mod Steps
+pub mod Twelve
 pub mod Listed
+pub mod Found
 pub mod CellsAt
 pub mod Laws
 pub mod Direct

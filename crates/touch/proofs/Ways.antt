@@ -22,16 +22,16 @@ use Rattle.touch.proofs.Vertices.{vertex, IsVertex, corner-vertex, vert
 -- ---- ways of the three axes
 
 -- three ways as one number
-three-ways : ℕ → ℕ → ℕ → ℕ
+unfoldable pub three-ways : ℕ → ℕ → ℕ → ℕ
 three-ways a b c = a + 3 * b + 9 * c
 
-record AxesOf (a b c : ℕ) : Type 0 where
-  x : three-ways a b c % 3 ≡ a
-  y : three-ways a b c / 3 % 3 ≡ b
-  z : three-ways a b c / 9 ≡ c
-  low : three-ways a b c < 27
+pub record AxesOf (a b c : ℕ) : Type 0 where
+  pub x : three-ways a b c % 3 ≡ a
+  pub y : three-ways a b c / 3 % 3 ≡ b
+  pub z : three-ways a b c / 9 ≡ c
+  pub low : three-ways a b c < 27
 
-axes : (a b c : ℕ) → a ≤ 2 → b ≤ 2 → c ≤ 2 → AxesOf a b c
+pub axes : (a b c : ℕ) → a ≤ 2 → b ≤ 2 → c ≤ 2 → AxesOf a b c
 unfolding three-ways
 axes a b c ha hb hc = record { x = omega arith; y = omega arith; z = omega arith; low = omega arith }
 

@@ -2,9 +2,11 @@
 ghost use mathlib.Core.Path.{_≡_};
 ghost use mathlib.Core.Bool.{cond};
 ghost use Prim.Native.Nat.{_+_, _-_, _^_, _<_, _≤_};
-ghost use Rattle.cell.specs.Cell.{Occurs, span, frameOf, placeOf, maxLevel};
+ghost use Rattle.cell.specs.Cell.{Occurs, span, frameOf, placeOf, number, maxLevel};
 ghost use Rattle.touch.specs.inside.Cube.{sum, equatorialSides, cubeOf, northernOctant, column, placeIn};
+use cell::CellNumber;
 use cell::Kind;
+use cell::NumberAnswer;
 use cell::Place;
 
 // One axis of the unit cube that a cell spans: its corners lie at base or base + 1 from zero, on one side of it.
@@ -142,4 +144,15 @@ pub(crate) fn room_in(n: u32, cube: Cube) -> u32
     let y = cube.y;
     let z = cube.z;
     n - x.base - y.base - z.base
+}
+
+// The number of a place that the level has.
+pub(crate) fn number_at(level: u32, place: Place) -> CellNumber
+    requires { ⌜ (level ≤ maxLevel) × Occurs level (placeOf place) ⌝ }
+    ensures { λ n. ⌜ n ≡ number level (placeOf place) ⌝ }
+{
+    match cell::number_of(level, place) {
+        NumberAnswer::Number(n) => n,
+        NumberAnswer::Refused(_) => 0,
+    }
 }

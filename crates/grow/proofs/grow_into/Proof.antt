@@ -37,8 +37,7 @@ returns c =
     let w = c .before .before in
     let s = w .before .before .before .before in
     let d = s .before .before .before .before in
-    let a = entry d .args in
-    (
+    let a = entry d .args in (
       s .spread .ensures ∙ ap (λ (l : List ℕ). bytesOf (4 ^ a .level) (grownCells (a .level) (a .rings) (marked l))) (written d),
       w .clear .ensures ∙ ap (λ (n : ℕ). replicate n 0) (entry d .pre .3),
     )

@@ -4,8 +4,8 @@ use Prim.Native.Nat.{ℕ, zero, suc, _+_, _-_, _/_, _%_, _^_}
 use mathlib.Core.Bool.{Bool, true, false, _&&_, not, cond}
 use mathlib.Core.List.{List}
 use mathlib.Core.Option.{Option, none, some}
-use lib.Dec.{leb, ltb, eqb}
-use lib.ListN.{getD, set}
+use lib.Dec.{leb, eqb}
+use lib.ListN.{set}
 use Rattle.cell.specs.Cell.{Frame, up, down, span, row, col, Place, number}
 use Rattle.corner.specs.Corner.{equatorial}
 use Rattle.touch.specs.declared.cube.Side.{Side}
@@ -101,15 +101,10 @@ cellAlong k c w = cond (touchingWay (2 ^ k - sum c) c w) (some (number k (placeO
 
 -- ---- the slice
 
--- x put into the first n of a slice, which rise
-unfoldable pub inserted : List ℕ → ℕ → ℕ → List ℕ
-inserted s zero x = set s 0 x
-inserted s (suc n) x = cond (ltb (getD s n 0) x) (set s (suc n) x) (inserted (set s (suc n) (getD s n 0)) n x)
-
 -- a slice and how many of it are used, with one cell more where there is one
 unfoldable pub withCell : Option ℕ → List ℕ × ℕ → List ℕ × ℕ
 withCell none s = s
-withCell (some x) s = (inserted (s .0) (s .1) x, s .1 + 1)
+withCell (some x) s = (set (s .0) (s .1) x, s .1 + 1)
 
 -- the same after the ways below w
 unfoldable pub gathered : ℕ → Cube → List ℕ → ℕ → List ℕ × ℕ

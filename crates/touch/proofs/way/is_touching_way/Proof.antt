@@ -1,4 +1,4 @@
--- `is_accepted` meets its contract: the sums are those of the definition. Assumes nothing.
+-- `is_touching_way` meets its contract: the sums are those of the definition. Assumes nothing.
 use mathlib.Core.Path.{_∙_}
 use borrow.Author.Tests.{eq-eqb, ne-eqb}
 use borrow.Author.Needs.{needs}
