@@ -1,27 +1,24 @@
 -- What the calls on rows do to a set's points: the start, a ring, and the end. Assumes nothing.
-use Prim.Native.Nat.{ℕ, suc, _+_, _-_, _*_, _≤_, _<_, _^_}
-use mathlib.Core.Path.{_≡_, refl, sym, ap, subst, _∙_}
+use Prim.Native.Nat.{ℕ, _+_, _-_, _≤_, _^_}
+use mathlib.Core.Path.{_≡_, sym, ap, subst, _∙_}
 use mathlib.Core.Bool.{Bool, true, false, _&&_, cond}
 use mathlib.Core.List.{List}
-use native.Mathlib.Omega.{arith}
 use borrow.Author.Tests.{le-leb, eq-eqb}
 use lib.Dec.{leb, eqb}
-use lib.ListN.{length, replicate}
-use Rattle.refusal.proofs.Tests.{clash, both}
+use lib.ListN.{length}
+use Rattle.refusal.proofs.Tests.{both}
 use Rattle.bitset.specs.Bits.{Bytes, marked, bytesOf}
 use Rattle.bitset.proofs.Laws.{settled, bytesOf-cong}
 use Rattle.cell.specs.Cell.{up, down, cells}
 use Rattle.corner.specs.Corner.{touches}
 use Rattle.mask.proofs.Reach.{grown-zero, grown-grown}
-use Rattle.rows.specs.Rows.{lit, inside, octantAt, rowAt, colAt}
-use Rattle.rows.proofs.Words.{lit-zeros}
-use Rattle.rows.proofs.Spots.{inside-is}
+use Rattle.rows.specs.Rows.{lit, inside}
 use Rattle.raster.specs.Raster.{isMask, cellAt, cellLit}
 use Rattle.seam.specs.Seam.{joined}
 use Rattle.seam.proofs.Laws.{joined-stays}
 use Rattle.stencil.specs.Stencil.{pointsOf, nearOf, upOf, downOf, inRows, inCellRows}
 use Rattle.spread.specs.Spread.{Points}
-use Rattle.spread.proofs.Cells.{in-rows, corners-of, past-rows}
+use Rattle.spread.proofs.Cells.{corners-of, past-rows}
 use Rattle.spread.proofs.Spread.{points-joined, corners-near, cells-grown, points-cong}
 use Rattle.grow.specs.Grow.{grownCells}
 

@@ -10,7 +10,7 @@ use lib.Pow.{pow-mono}
 use Rattle.refusal.proofs.Tests.{same-test, clash, both, parts}
 use Rattle.cell.specs.declared.Kind.{Kind}
 use Rattle.cell.specs.declared.Kind.the-variants.{Up, Down}
-use Rattle.cell.specs.Cell.{Frame, frameOf, up, down, span, Place, place, number, Occurs, cells}
+use Rattle.cell.specs.Cell.{frameOf, up, down, span, Place, place, number, Occurs, cells}
 use Rattle.cell.proofs.Laws.{place-occurs, place-number, number-place, number-below, frame-bounds}
 use Rattle.cell.proofs.Answers.{Given}
 use Rattle.rows.specs.Rows.{lit, spot, octantAt, rowAt, colAt}
@@ -146,16 +146,3 @@ kind-told k c o a b s t e g = subst (λ (u : Kind). Given k c (o, frameOf u a b)
 pub cell-lit : (k c o a b : ℕ) (t : Kind) (u d : List ℕ) → Given k c (o, frameOf t a b) → cellLit k u d c ≡ frameLit u d o (frameOf t a b)
 unfolding cellLit
 cell-lit k c o a b t u d g = rw (g .at)
-
--- rows that hold exactly the cells of a set hold each at its own spot: to rows and back is where it began
-pub there-and-back : (k : ℕ) (A : ℕ → Bool) (u d : List ℕ) → k ≤ 8 → ((i : ℕ) → lit u i ≡ cellAt up k A i) → ((i : ℕ) → lit d i ≡ cellAt down k A i) →
-    (c : ℕ) → c < cells k → cellLit k u d c ≡ A c
-unfolding cellLit frameLit
-there-and-back k A u d h f g c l = go (place k c .1) refl
-  where
-    o : ℕ
-    o = place k c .0
-
-    go : (x : Frame) → place k c .1 ≡ x → frameLit u d o x ≡ A c
-    go (up a b) e = f (spot o a b) ∙ at-cell k Up A c o a b h l (ap (λ (x : Frame). (o, x)) e)
-    go (down a b) e = g (spot o a b) ∙ at-cell k Down A c o a b h l (ap (λ (x : Frame). (o, x)) e)

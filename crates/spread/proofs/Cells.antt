@@ -1,5 +1,5 @@
 -- Cells in rows, and the spots of their corners: `pointsOf` of a set's cells has each corner in its cell's octant. Assumes nothing.
-use Prim.Native.Nat.{ℕ, _+_, _*_, _-_, _≤_, _<_, _^_}
+use Prim.Native.Nat.{ℕ, _+_, _-_, _≤_, _<_, _^_}
 use mathlib.Core.Path.{_≡_, refl, sym, ap, subst, _∙_}
 use mathlib.Core.Bool.{Bool, true, false, _&&_, _||_, cond}
 use mathlib.Core.Logic.{_⊎_, inl, inr, ⊎-elim}
@@ -9,7 +9,7 @@ use lib.Dec.{leb, ltb}
 use lib.Pow.{pow-mono}
 use borrow.Author.Tests.{leb-true, ltb-true, le-leb, lt-ltb}
 use Rattle.refusal.proofs.Tests.{clash, both, parts, left, right, cases}
-use Rattle.cell.specs.Cell.{Frame, up, down, span, Place, place, number, Occurs, cells}
+use Rattle.cell.specs.Cell.{Frame, up, down, span, Place, place, number, Occurs}
 use Rattle.cell.proofs.Laws.{place-occurs, place-number, number-place, number-below}
 use Rattle.rows.specs.Rows.{spot, octantAt, rowAt, colAt, inside}
 use Rattle.rows.proofs.Spots.{spot-again, spot-octant, spot-row, spot-col, spot-same, inside-is, inside-spot}

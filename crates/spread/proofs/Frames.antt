@@ -1,13 +1,12 @@
 -- The corners of a frame, as rows and columns and as points; and two corners of one frame. Assumes nothing.
-use Prim.Native.Nat.{ℕ, zero, suc, _+_, _≤_, _<_, _^_}
-use mathlib.Core.Path.{_≡_, refl, sym, ap, ap₂, subst, _∙_}
-use mathlib.Core.Bool.{Bool, true}
-use mathlib.Core.List.{List, [], _∷_}
-use mathlib.Core.Logic.{_⊎_, inl, inr, ⊎-elim}
+use Prim.Native.Nat.{ℕ, _+_, _≤_, _<_}
+use mathlib.Core.Path.{_≡_, refl, sym, ap₂}
+use mathlib.Core.List.{[]}
+use mathlib.Core.Logic.{inl, inr}
 use native.Mathlib.Omega.{arith}
 use lib.ListN.{getD}
 use Rattle.cell.specs.Cell.{Frame, up, down, span}
-use Rattle.corner.specs.Corner.{Point, corner, frameCorners}
+use Rattle.corner.specs.Corner.{corner, frameCorners}
 use Rattle.corner.proofs.Common.{index-cases}
 use Rattle.spread.specs.Spread.{HasCorner}
 

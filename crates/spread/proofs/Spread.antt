@@ -1,6 +1,6 @@
 -- Growing by points, ring by ring: joined at the seams the corners of a set's cells are its points; what is near them are the corners of the cells one
 -- touching step on; and those cells are the cells that have a point of them. Assumes nothing.
-use Prim.Native.Nat.{ℕ, _+_, _*_, _-_, _≤_, _<_, _^_}
+use Prim.Native.Nat.{ℕ, _+_, _-_, _≤_, _<_, _^_}
 use mathlib.Core.Path.{_≡_, refl, sym, ap, subst, _∙_}
 use mathlib.Core.Bool.{Bool, true, false, _&&_, _||_, cond}
 use mathlib.Core.List.{List, []}
@@ -9,15 +9,15 @@ use native.Mathlib.Nat.{one-le-pow, le-trans}
 use native.Mathlib.Omega.{arith}
 use lib.Dec.{leb, ltb}
 use lib.ListN.{getD}
-use borrow.Author.Tests.{leb-true, ltb-true, le-leb, lt-ltb}
-use Rattle.refusal.proofs.Tests.{clash, same-test, both, parts, left, right, cases}
+use borrow.Author.Tests.{le-leb, lt-ltb}
+use Rattle.refusal.proofs.Tests.{same-test, both, parts, left, right, cases}
 use Rattle.cell.specs.Cell.{Frame, up, down, span, Place, place, number, Occurs, cells}
 use Rattle.cell.proofs.Laws.{place-occurs, place-number, number-below}
-use Rattle.corner.specs.Corner.{Point, corner, corners, frameCorners, samePoint, among, common, touches}
+use Rattle.corner.specs.Corner.{Point, corner, corners, samePoint, among, touches}
 use Rattle.corner.proofs.Common.{among-index, index-among, samePoint-refl, common-meeting, meeting-common}
 use Rattle.mask.specs.Reach.{grown}
 use Rattle.rows.specs.Rows.{lit, spot, octantAt, rowAt, colAt, inside}
-use Rattle.rows.proofs.Spots.{Inside, inside-is, inside-spot, spot-octant, spot-row, spot-col, small}
+use Rattle.rows.proofs.Spots.{inside-is, inside-spot, spot-octant, spot-row, spot-col, small}
 use Rattle.raster.specs.Raster.{frameLit, cellLit}
 use Rattle.seam.specs.Seam.{pointAt, joined}
 use Rattle.seam.proofs.Laws.{same-corner, joined-out, joined-in, joined-stays}

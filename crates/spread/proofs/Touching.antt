@@ -2,15 +2,13 @@
 use Prim.Native.Nat.{ℕ, _<_}
 use mathlib.Core.Path.{_≡_, refl, sym, ap, subst, _∙_}
 use mathlib.Core.Bool.{Bool, true, false, _&&_, _||_, not}
-use mathlib.Core.List.{List, []}
-use mathlib.Core.Logic.{_⊎_, inl, inr, ⊎-elim}
+use mathlib.Core.Logic.{_⊎_, ⊎-elim}
 use native.Mathlib.Omega.{arith}
 use borrow.Author.Tests.{eqb-true}
 use lib.Dec.{eqb}
-use lib.ListN.{getD}
 use Rattle.refusal.proofs.Tests.{both, parts, left, right, cases}
 use Rattle.cell.specs.Cell.{place, cells}
-use Rattle.corner.specs.Corner.{Point, corners, common, touches}
+use Rattle.corner.specs.Corner.{corners, common, touches}
 use Rattle.corner.proofs.Common.{shared-common}
 use Rattle.mask.specs.Reach.{anyBelow, grown}
 use Rattle.mask.proofs.Reach.{Is, any-in, any-out, grown-zero, grown-step}

@@ -1,5 +1,4 @@
 -- `centre_by` meets its contract: with a + b + s ≤ N both p and m are below q. Assumes nothing.
-use borrow.Author.Needs.{needs}
 use Prim.Native.Nat.{_+_, _*_, _^_, _<_, _≤_}
 use native.Mathlib.Omega.{arith}
 use lib.Pow.{pow-pos, pow-mono}

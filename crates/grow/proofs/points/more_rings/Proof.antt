@@ -1,6 +1,6 @@
 -- `more_rings` meets its contract. The invariant: the rings left lead from the points now to the rings asked for; the other array is clear past the rows.
 -- The measure is what is left. Assumes nothing.
-use Prim.Native.Nat.{ℕ, _+_, _≤_}
+use Prim.Native.Nat.{ℕ, _+_}
 use mathlib.Core.Path.{_≡_}
 use mathlib.Core.Bool.{Bool, false}
 use borrow.Author.Needs.{needs}

@@ -1,9 +1,6 @@
 -- `share_of` meets its contract: q² is a whole number of parts of 2^level. Assumes nothing.
-use Prim.Native.Nat.{_*_, _/_, _%_, _^_, _<_}
-use mathlib.Core.Path.{_≡_, sym, ap, _∙_}
 use borrow.Author.Needs.{needs}
 use native.Mathlib.Omega.{arith}
-use Rattle.position.specs.Position.{q}
 use Rattle.position.proofs.Laws.{share-positive, share-whole, share-rest, share-fits}
 use Rattle.position.proofs.place.share_of.Statement.{statement}
 use Rattle.position.proofs.place.share_of.Tie as tie
