@@ -1,4 +1,4 @@
--- The digits that lead to a frame, their high and low bits by those of row, column and kind: one induction over the level,
+-- The digits that lead to a triangle, their high and low bits by those of row, column and kind: one induction over the level,
 -- a digit at a time. Assumes nothing.
 use Prim.Native.Nat.{ℕ, zero, suc, _+_, _*_, _-_, _/_, _%_, _^_, _≤_, _<_}
 use mathlib.Core.Path.{_≡_, refl, sym, ap, ap₂, _∙_}
@@ -8,11 +8,11 @@ use lib.Pow.{ones-lt}
 use lib.Bits.{bitAnd, bitXor, xor-shr, xor-mod, and-shr, and-mod, and-lt, xor-lt}
 use Rattle.cell.specs.declared.Kind.{Kind}
 use Rattle.cell.specs.declared.Kind.the-variants.{Up, Down}
-use Rattle.cell.specs.Cell.{frameOf, row, col, span, parents, parities, asChild, digits}
+use Rattle.cell.specs.Cell.{triangleOf, row, col, span, parents, parities, asChild, digits}
 use Rattle.cell.specs.inside.Bits.{recode, spread}
 use Rattle.cell.proofs.Recode.{recode-more}
 use Rattle.cell.proofs.Laws.{bit-cases}
-use Rattle.cell.proofs.FrameBits.{kindAt, all, all-more}
+use Rattle.cell.proofs.TriangleBits.{kindAt, all, all-more}
 
 -- where the sum of row, column and kind differs from the column; and the digits' high and low bits
 abbrev crossed : ℕ → ℕ → ℕ → ℕ
@@ -88,20 +88,20 @@ abbrev kindBit : Kind → ℕ
 kindBit Up = 0
 kindBit Down = 1
 
-spans : (t : Kind) (a b : ℕ) → (kindBit t < 2) × (frameOf t a b ≡ kindAt (kindBit t) a b) × (span (frameOf t a b) ≡ a + b + kindBit t + 1)
+spans : (t : Kind) (a b : ℕ) → (kindBit t < 2) × (triangleOf t a b ≡ kindAt (kindBit t) a b) × (span (triangleOf t a b) ≡ a + b + kindBit t + 1)
 unfolding span
 spans Up a b = (omega arith, refl, omega arith)
 spans Down a b = (omega arith, refl, omega arith)
 
-pub digits-bits-16 : (k : ℕ) (t : Kind) (a b : ℕ) → k ≤ 16 → span (frameOf t a b) ≤ 2 ^ k →
-    let c = bitXor (span (frameOf t a b) - 1) b in
+pub digits-bits-16 : (k : ℕ) (t : Kind) (a b : ℕ) → k ≤ 16 → span (triangleOf t a b) ≤ 2 ^ k →
+    let c = bitXor (span (triangleOf t a b) - 1) b in
     let h = bitXor (all k) c in
     let l = bitXor b (bitAnd a c) in
-    2 * spread 16 h + spread 16 l ≡ digits k (frameOf t a b)
+    2 * spread 16 h + spread 16 l ≡ digits k (triangleOf t a b)
 digits-bits-16 k t a b le s =
     let v = spans t a b in
     let c = crossed (kindBit t) a b in
-    let e : span (frameOf t a b) - 1 ≡ a + b + kindBit t = omega (arith, v .2) in
+    let e : span (triangleOf t a b) - 1 ≡ a + b + kindBit t = omega (arith, v .2) in
     let hb : b < 2 ^ k = omega (arith, v .2) in
     let hc : c < 2 ^ k = xor-lt k (a + b + kindBit t) b (omega (arith, v .2)) hb in
     let h : highBits k (kindBit t) a b < 2 ^ k = xor-lt k (all k) c (ones-lt k) hc in

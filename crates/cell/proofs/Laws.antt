@@ -1,4 +1,4 @@
--- The laws of frames, places and numbers, each once over the level k. They are what the crates above cite.
+-- The laws of triangles, places and numbers, each once over the level k. They are what the crates above cite.
 -- Assumes nothing.
 use Prim.Native.Nat.{ℕ, zero, suc, _+_, _*_, _/_, _%_, _^_, _≤_, _<_}
 use mathlib.Core.Path.{_≡_, refl, sym, ap₂, subst, _∙_}
@@ -11,7 +11,7 @@ use lib.Pow.{pow-lt}
 use lib.Arith.{digits-lt, digits-div, mod-mul}
 use Rattle.cell.specs.declared.Kind.{Kind}
 use Rattle.cell.specs.declared.Kind.the-variants.{Up, Down}
-use Rattle.cell.specs.Cell.{Frame, frameOf, up, down, row, col, children, child, frame, span, Place, place, Occurs}
+use Rattle.cell.specs.Cell.{Triangle, triangleOf, up, down, row, col, children, child, triangle, span, Place, place, Occurs}
 use Rattle.cell.specs.Cell.{parents, parities, asChild, digits, number, cells}
 
 -- ---- one step of the table
@@ -45,19 +45,19 @@ odd-div a = omega arith
 ruleset halves = (even-mod, even-div, odd-mod, odd-div)
 
 -- a child's parent and digit are those it was made of
-pub as-child-child : (f : Frame) (d : ℕ) → d < 4 → asChild (child f d) ≡ (f, d)
+pub as-child-child : (f : Triangle) (d : ℕ) → d < 4 → asChild (child f d) ≡ (f, d)
 unfolding child children row col asChild parents parities
 as-child-child (up a b) = digit-cases _ (simp halves) (simp halves) (simp halves) (simp halves)
 as-child-child (down a b) = digit-cases _ (simp halves) (simp halves) (simp halves) (simp halves)
 
--- what is known of a frame's parent and digit: the frame is that child, the digit is below 4,
--- and the parent occurs wherever the frame's level has a level above it
-record ChildKnown (f : Frame) (o : Frame × ℕ) : Type 0 where
+-- what is known of a triangle's parent and digit: the triangle is that child, the digit is below 4,
+-- and the parent occurs wherever the triangle's level has a level above it
+record ChildKnown (f : Triangle) (o : Triangle × ℕ) : Type 0 where
   again : child (o .0) (o .1) ≡ f
   small : o .1 < 4
   inside : (M : ℕ) → span f ≤ 2 * M → span (o .0) ≤ M
 
-child-known : (f : Frame) → ChildKnown f (asChild f)
+child-known : (f : Triangle) → ChildKnown f (asChild f)
 unfolding row col asChild parents parities child children span
 child-known (up a b) = digit-cases (λ (i : ℕ). parities (up a b) ≡ i → ChildKnown (up a b) (getD (parents (up a b)) i (up a b, 0)))
     (λ e. record { again = ap₂ up (omega arith) (omega arith); small = omega arith; inside = λ M h. omega arith })
@@ -72,7 +72,7 @@ child-known (down a b) = digit-cases (λ (i : ℕ). parities (down a b) ≡ i �
     (λ e. record { again = ap₂ down (omega arith) (omega arith); small = omega arith; inside = λ M h. omega arith })
     (parities (down a b)) (omega arith) refl
 
-child-span : (f : Frame) (M : ℕ) → span f ≤ M → (d : ℕ) → d < 4 → span (child f d) ≤ 2 * M
+child-span : (f : Triangle) (M : ℕ) → span f ≤ M → (d : ℕ) → d < 4 → span (child f d) ≤ 2 * M
 unfolding child children span
 child-span (up a b) M h = digit-cases _ (omega arith) (omega arith) (omega arith) (omega arith)
 child-span (down a b) M h = digit-cases _ (omega arith) (omega arith) (omega arith) (omega arith)
@@ -81,7 +81,7 @@ child-span (down a b) M h = digit-cases _ (omega arith) (omega arith) (omega ari
 
 -- level 0 is up(0,0) of each octant
 pub level-0 : (n : ℕ) → place 0 n ≡ (n, up 0 0)
-unfolding place frame
+unfolding place triangle
 level-0 n = rw (pow-zero, div-one)
 
 two-pow : (k : ℕ) → 2 ^ suc k ≡ 2 * 2 ^ k
@@ -90,56 +90,56 @@ two-pow k = omega (arith, pow-suc 2 k)
 four-pow : (k : ℕ) → 4 ^ suc k ≡ 4 * 4 ^ k
 four-pow k = omega (arith, pow-suc 4 k)
 
--- each number leads to a frame of its level
-pub frame-span : (k n : ℕ) → span (frame k n) ≤ 2 ^ k
-unfolding frame span
-frame-span zero n = omega (arith, pow-zero 2)
-frame-span (suc k) n = rw (two-pow k) (child-span _ (2 ^ k) (frame-span k _) _ (omega arith))
+-- each number leads to a triangle of its level
+pub triangle-span : (k n : ℕ) → span (triangle k n) ≤ 2 ^ k
+unfolding triangle span
+triangle-span zero n = omega (arith, pow-zero 2)
+triangle-span (suc k) n = rw (two-pow k) (child-span _ (2 ^ k) (triangle-span k _) _ (omega arith))
 
 -- k digits are a number below 4^k
-pub digits-below : (k : ℕ) (f : Frame) → digits k f < 4 ^ k
+pub digits-below : (k : ℕ) (f : Triangle) → digits k f < 4 ^ k
 unfolding digits
 digits-below zero f = omega (arith, pow-zero 4)
 digits-below (suc k) f = omega (arith, four-pow k, digits-below k (asChild f .0), child-known f .small)
 
--- a frame's digits lead to it
-pub frame-digits : (k : ℕ) (f : Frame) → span f ≤ 2 ^ k → frame k (digits k f) ≡ f
-unfolding frame digits span
-frame-digits zero (up a b) h = ap₂ up (omega (arith, pow-zero 2)) (omega (arith, pow-zero 2))
-frame-digits zero (down a b) h = absurd (omega (arith, pow-zero 2))
-frame-digits (suc k) f h =
+-- a triangle's digits lead to it
+pub triangle-digits : (k : ℕ) (f : Triangle) → span f ≤ 2 ^ k → triangle k (digits k f) ≡ f
+unfolding triangle digits span
+triangle-digits zero (up a b) h = ap₂ up (omega (arith, pow-zero 2)) (omega (arith, pow-zero 2))
+triangle-digits zero (down a b) h = absurd (omega (arith, pow-zero 2))
+triangle-digits (suc k) f h =
     let d = digits k (asChild f .0) in
     let r = asChild f .1 in
     let high : (4 * d + r) / 4 ≡ d = omega (arith, child-known f .small) in
     let low : (4 * d + r) % 4 ≡ r = omega (arith, child-known f .small) in
-    let same : frame k d ≡ asChild f .0 = frame-digits k (asChild f .0) (child-known f .inside (2 ^ k) (rw two-pow at h)) in
+    let same : triangle k d ≡ asChild f .0 = triangle-digits k (asChild f .0) (child-known f .inside (2 ^ k) (rw two-pow at h)) in
     rw (high, low, same) (child-known f .again)
 
--- the digits of the frame that a number leads to are the number's k lowest
-pub digits-frame : (k n : ℕ) → digits k (frame k n) ≡ n % 4 ^ k
-unfolding frame digits
-digits-frame zero n = sym (rw pow-zero (mod-one n))
-digits-frame (suc k) n =
+-- the digits of the triangle that a number leads to are the number's k lowest
+pub digits-triangle : (k n : ℕ) → digits k (triangle k n) ≡ n % 4 ^ k
+unfolding triangle digits
+digits-triangle zero n = sym (rw pow-zero (mod-one n))
+digits-triangle (suc k) n =
     let b : n % 4 < 4 = omega arith in
-    rw (as-child-child (frame k (n / 4)) (n % 4) b, digits-frame k (n / 4), pow-suc 4 k)
+    rw (as-child-child (triangle k (n / 4)) (n % 4) b, digits-triangle k (n / 4), pow-suc 4 k)
     (omega (arith, mod-mul n {m = 4 ^ k} {c = 4} (one-le-pow k 4 (omega arith)) (omega arith)))
 
--- digits above the k lowest do not matter to the frame
-frame-low : (k o d : ℕ) → frame k (o * 4 ^ k + d) ≡ frame k d
-unfolding frame
-frame-low zero o d = refl
-frame-low (suc k) o d =
+-- digits above the k lowest do not matter to the triangle
+triangle-low : (k o d : ℕ) → triangle k (o * 4 ^ k + d) ≡ triangle k d
+unfolding triangle
+triangle-low zero o d = refl
+triangle-low (suc k) o d =
     let e : o * 4 ^ suc k ≡ 4 * (o * 4 ^ k) = rw four-pow (mul-left-comm o 4 (4 ^ k)) in
     let high : (o * 4 ^ suc k + d) / 4 ≡ o * 4 ^ k + d / 4 = omega arith in
     let low : (o * 4 ^ suc k + d) % 4 ≡ d % 4 = omega arith in
-    rw (high, low, frame-low k o (d / 4))
+    rw (high, low, triangle-low k o (d / 4))
 
 -- ---- places
 
 -- a number of the level has a place that occurs there
 pub place-occurs : (k n : ℕ) → n < cells k → Occurs k (place k n)
 unfolding place
-place-occurs k n h = (div-lt-iff-lt-mul (one-le-pow k 4 (omega arith)) .1 h, frame-span k n)
+place-occurs k n h = (div-lt-iff-lt-mul (one-le-pow k 4 (omega arith)) .1 h, triangle-span k n)
 
 -- a place that occurs has a number of the level
 pub number-below : (k : ℕ) (p : Place) → Occurs k p → number k p < cells k
@@ -151,13 +151,13 @@ pub place-number : (k : ℕ) (p : Place) → Occurs k p → place k (number k p)
 unfolding place number
 place-number k p h =
     let e : (p .0 * 4 ^ k + digits k (p .1)) / 4 ^ k ≡ p .0 = digits-div (p .0) (digits-below k (p .1)) in
-    let f : frame k (p .0 * 4 ^ k + digits k (p .1)) ≡ p .1 = frame-low k (p .0) (digits k (p .1)) ∙ frame-digits k (p .1) (h .1) in
+    let f : triangle k (p .0 * 4 ^ k + digits k (p .1)) ≡ p .1 = triangle-low k (p .0) (digits k (p .1)) ∙ triangle-digits k (p .1) (h .1) in
     λ i. (e i, f i)
 
 -- a number's place has that number
 pub number-place : (k n : ℕ) → number k (place k n) ≡ n
 unfolding place number
-number-place k n = rw digits-frame (div-add-mod' n (4 ^ k))
+number-place k n = rw digits-triangle (div-add-mod' n (4 ^ k))
 
 -- the places that occur are exactly those of the level's numbers: up with a+b ≤ N−1 and down with a+b ≤ N−2, in octants 0 to 7
 pub occurs-exactly : (k : ℕ) (p : Place) → Occurs k p ↔ ((n : ℕ) × (n < cells k) × (place k n ≡ p))
@@ -168,7 +168,7 @@ occurs-exactly k p = (
 
 -- child d of cell c at level k is cell 4c + d at level k + 1
 pub child-number : (k c d : ℕ) → d < 4 → place (suc k) (4 * c + d) ≡ (place k c .0, child (place k c .1) d)
-unfolding place frame
+unfolding place triangle
 child-number k c d h =
     let high : (4 * c + d) / 4 ≡ c = omega arith in
     let low : (4 * c + d) % 4 ≡ d = omega arith in
@@ -184,11 +184,11 @@ shift-four (suc k) =
     let e : 2 * suc k ≡ suc (suc (2 * k)) = omega arith in
     rw e (omega (arith, pow-suc 2 (suc (2 * k)), pow-suc 2 (2 * k), pow-suc 4 k, shift-four k))
 
--- row and column of a frame are below what it spans
-pub frame-bounds : (t : Kind) (a b M : ℕ) → span (frameOf t a b) ≤ M → (a < M) × (b < M)
+-- row and column of a triangle are below what it spans
+pub triangle-bounds : (t : Kind) (a b M : ℕ) → span (triangleOf t a b) ≤ M → (a < M) × (b < M)
 unfolding span
-frame-bounds Up a b M h = omega arith
-frame-bounds Down a b M h = omega arith
+triangle-bounds Up a b M h = omega arith
+triangle-bounds Down a b M h = omega arith
 
 -- an octant above 7 is a number past the level's
 pub past-level : (k n : ℕ) → 8 ≤ n / 2 ^ (2 * k) → cells k ≤ n

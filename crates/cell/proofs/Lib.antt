@@ -4,5 +4,5 @@ pub mod Recode
 pub mod Runs
 pub mod Passes
 pub mod Odd
-pub mod FrameBits
+pub mod TriangleBits
 pub mod DigitBits

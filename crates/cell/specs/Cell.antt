@@ -14,73 +14,73 @@ use Rattle.cell.specs.declared.PlaceAnswer.the-variants as place-answer
 use Rattle.cell.specs.declared.NumberAnswer.{NumberAnswer}
 use Rattle.cell.specs.declared.NumberAnswer.the-variants as number-answer
 
--- ---- frames
+-- ---- triangles
 
 -- where a cell lies in its octant: row a counts from the equator to the pole, column b from the west edge
-pub data Frame : Type 0 where
-  up : ℕ → ℕ → Frame
-  down : ℕ → ℕ → Frame
+pub data Triangle : Type 0 where
+  up : ℕ → ℕ → Triangle
+  down : ℕ → ℕ → Triangle
 
--- row and column of a frame
-unfoldable pub row : Frame → ℕ
+-- row and column of a triangle
+unfoldable pub row : Triangle → ℕ
 row (up a b) = a
 row (down a b) = a
 
-unfoldable pub col : Frame → ℕ
+unfoldable pub col : Triangle → ℕ
 col (up a b) = b
 col (down a b) = b
 
 -- the table of children: 0, 1, 2, 3
-unfoldable pub children : Frame → List Frame
+unfoldable pub children : Triangle → List Triangle
 children (up a b) = down (2 * a) (2 * b) ∷ up (2 * a + 1) (2 * b) ∷ up (2 * a) (2 * b) ∷ up (2 * a) (2 * b + 1) ∷ []
 children (down a b) =
     up (2 * a + 1) (2 * b + 1) ∷ down (2 * a) (2 * b + 1) ∷ down (2 * a + 1) (2 * b) ∷ down (2 * a + 1) (2 * b + 1) ∷ []
 
--- child d of a frame, d a digit below 4
-unfoldable pub child : Frame → ℕ → Frame
+-- child d of a triangle, d a digit below 4
+unfoldable pub child : Triangle → ℕ → Triangle
 child f d = getD (children f) d f
 
--- the frame of the cell whose digits are the k lowest base-4 digits of n, the highest of them first
-unfoldable pub frame : ℕ → ℕ → Frame
-frame zero n = up 0 0
-frame (suc k) n = child (frame k (n / 4)) (n % 4)
+-- the triangle of the cell whose digits are the k lowest base-4 digits of n, the highest of them first
+unfoldable pub triangle : ℕ → ℕ → Triangle
+triangle zero n = up 0 0
+triangle (suc k) n = child (triangle k (n / 4)) (n % 4)
 
--- the least N at which a frame occurs: up(a,b) with a+b ≤ N−1, down(a,b) with a+b ≤ N−2
-unfoldable pub span : Frame → ℕ
+-- the least N at which a triangle occurs: up(a,b) with a+b ≤ N−1, down(a,b) with a+b ≤ N−2
+unfoldable pub span : Triangle → ℕ
 span (up a b) = a + b + 1
 span (down a b) = a + b + 2
 
 -- ---- places
 
--- a cell's octant and its frame there
+-- a cell's octant and its triangle there
 abbrev pub Place : Type 0
-Place = ℕ × Frame
+Place = ℕ × Triangle
 
 -- the place of cell number n at level k: the octant, and what the k digits lead to
 unfoldable pub place : ℕ → ℕ → Place
-place k n = (n / 4 ^ k, frame k n)
+place k n = (n / 4 ^ k, triangle k n)
 
 -- the places that occur at level k
 abbrev pub Occurs : ℕ → Place → Type 0
 Occurs k p = (p .0 < 8) × (span (p .1) ≤ 2 ^ k)
 
--- the table of children read backwards: parent and digit of a frame, for the parities (0,0), (0,1), (1,0), (1,1) of row and column
-unfoldable pub parents : Frame → List (Frame × ℕ)
+-- the table of children read backwards: parent and digit of a triangle, for the parities (0,0), (0,1), (1,0), (1,1) of row and column
+unfoldable pub parents : Triangle → List (Triangle × ℕ)
 parents (up a b) =
     (up (a / 2) (b / 2), 2) ∷ (up (a / 2) (b / 2), 3) ∷ (up (a / 2) (b / 2), 1) ∷ (down (a / 2) (b / 2), 0) ∷ []
 parents (down a b) =
     (up (a / 2) (b / 2), 0) ∷ (down (a / 2) (b / 2), 1) ∷ (down (a / 2) (b / 2), 2) ∷ (down (a / 2) (b / 2), 3) ∷ []
 
 -- the parities of row and column, as a number below 4
-unfoldable pub parities : Frame → ℕ
+unfoldable pub parities : Triangle → ℕ
 parities f = 2 * (row f % 2) + col f % 2
 
--- a frame as a child: its parent, and which child of it the frame is
-unfoldable pub asChild : Frame → Frame × ℕ
+-- a triangle as a child: its parent, and which child of it the triangle is
+unfoldable pub asChild : Triangle → Triangle × ℕ
 asChild f = getD (parents f) (parities f) (f, 0)
 
--- the k digits of a frame of level k, read in base 4
-unfoldable pub digits : ℕ → Frame → ℕ
+-- the k digits of a triangle of level k, read in base 4
+unfoldable pub digits : ℕ → Triangle → ℕ
 digits zero f = 0
 digits (suc k) f = 4 * digits k (asChild f .0) + asChild f .1
 
@@ -118,12 +118,12 @@ abbrev pub numberCall : ℕ → Place → Answer ℕ
 numberCall k p = inOrder (badLevel maxLevel k ∷ badPlace k p ∷ []) (number k p)
 
 -- what the code's values stand for
-abbrev pub frameOf : Kind → ℕ → ℕ → Frame
-frameOf Up a b = up a b
-frameOf Down a b = down a b
+abbrev pub triangleOf : Kind → ℕ → ℕ → Triangle
+triangleOf Up a b = up a b
+triangleOf Down a b = down a b
 
 abbrev pub placeOf : declared.Place → Place
-placeOf p = (p .octant, frameOf (p .kind) (p .row) (p .col))
+placeOf p = (p .octant, triangleOf (p .kind) (p .row) (p .col))
 
 abbrev pub saidPlace : PlaceAnswer → Answer Place
 saidPlace (place-answer.At p) = given (placeOf p)

@@ -3,7 +3,7 @@ mod bits;
 
 ghost use mathlib.Core.Path.{_≡_};
 ghost use Prim.Native.Nat.{_≤_};
-ghost use Rattle.cell.specs.Cell.{Frame, place, number, Occurs, maxLevel, span};
+ghost use Rattle.cell.specs.Cell.{Triangle, place, number, Occurs, maxLevel, span};
 ghost use Rattle.cell.specs.Cell.{placeOf, saidPlace, saidNumber, placeCall, numberCall};
 
 // A cell's number at its level: octant × 4^level plus the level's digits in base 4, first digit highest.
@@ -40,7 +40,7 @@ pub enum NumberAnswer {
 
 // The paper's up(row,col) of an octant.
 fn up(octant: u32, row: u32, col: u32) -> Place
-    ensures { λ r. ⌜ placeOf r ≡ (octant, Frame.up row col) ⌝ }
+    ensures { λ r. ⌜ placeOf r ≡ (octant, Triangle.up row col) ⌝ }
 {
     let kind = Kind::Up;
     Place {
@@ -53,7 +53,7 @@ fn up(octant: u32, row: u32, col: u32) -> Place
 
 // The paper's down(row,col) of an octant.
 fn down(octant: u32, row: u32, col: u32) -> Place
-    ensures { λ r. ⌜ placeOf r ≡ (octant, Frame.down row col) ⌝ }
+    ensures { λ r. ⌜ placeOf r ≡ (octant, Triangle.down row col) ⌝ }
 {
     let kind = Kind::Down;
     Place {
@@ -98,7 +98,7 @@ pub fn place_of(level: u32, cell: CellNumber) -> PlaceAnswer
     PlaceAnswer::At(descend(level, cell))
 }
 
-// The least N at which the place's frame occurs.
+// The least N at which the place's triangle occurs.
 fn span_of(place: Place) -> u64
     ensures { λ r. ⌜ r ≡ span (placeOf place .1) ⌝ }
 {

@@ -10,10 +10,10 @@ use lib.Dec.{ltb}
 use lib.Pow.{pow-pos}
 use lib.IntN.{ℤ, pos, negsuc, natAbs, negℤ, _+ℤ_}
 use borrow.Author.Tests.{le-ltb, ltb-true, ltb-false}
-use Rattle.cell.specs.Cell.{Frame, up, down, row, col, Place, Occurs, span, maxLevel}
-use Rattle.position.specs.Position.{q, longitudeOut, beginning, northOctant, octant, scaledT, scaledR, Holds, frameAt, placeAt}
+use Rattle.cell.specs.Cell.{Triangle, up, down, row, col, Place, Occurs, span, maxLevel}
+use Rattle.position.specs.Position.{q, longitudeOut, beginning, northOctant, octant, scaledT, scaledR, Holds, triangleAt, placeAt}
 use Rattle.position.proofs.Laws.{squareThird, square-third, beginning-inside, beginning-octant, beginning-offset, octant-south, octant-north}
-use Rattle.position.proofs.Laws.{HoldsAt, held-holds, holds-holder, frame-below}
+use Rattle.position.proofs.Laws.{HoldsAt, held-holds, holds-holder, triangle-below}
 use Rattle.centre.specs.Centre.{thirds, centreP, centreM, latitudeOf, centre}
 use Rattle.centre.specs.inside.Parts.{pOf, mOf}
 
@@ -85,19 +85,19 @@ m-near n y p d hn hd hw =
     let r = mul-le-mul hw hdw in
     record { top = omega arith; bottom = omega arith }
 
--- a point so near the middle of a frame lies in it
-near-frame : (Q t r : ℕ) (f : Frame) → 0 < Q → Near Q t (3 * row f + thirds f) → Near Q r (3 * col f + thirds f) → HoldsAt Q t r f
+-- a point so near the middle of a triangle lies in it
+near-triangle : (Q t r : ℕ) (f : Triangle) → 0 < Q → Near Q t (3 * row f + thirds f) → Near Q r (3 * col f + thirds f) → HoldsAt Q t r f
 unfolding row col thirds
-near-frame Q t r (up a b) h u v = omega arith
-near-frame Q t r (down a b) h u v = omega arith
+near-triangle Q t r (up a b) h u v = omega arith
+near-triangle Q t r (down a b) h u v = omega arith
 
--- the thirds of a frame that occurs leave room for one another, and are not 0
-thirds-fit : (n : ℕ) (f : Frame) → span f ≤ n → (3 * row f + thirds f) + (3 * col f + thirds f) < 3 * n
+-- the thirds of a triangle that occurs leave room for one another, and are not 0
+thirds-fit : (n : ℕ) (f : Triangle) → span f ≤ n → (3 * row f + thirds f) + (3 * col f + thirds f) < 3 * n
 unfolding row col thirds span
 thirds-fit n (up a b) h = omega arith
 thirds-fit n (down a b) h = omega arith
 
-thirds-positive : (f : Frame) → 0 < thirds f
+thirds-positive : (f : Triangle) → 0 < thirds f
 unfolding thirds
 thirds-positive (up a b) = omega arith
 thirds-positive (down a b) = omega arith
@@ -119,33 +119,33 @@ module _ (n x y : ℕ) (hn : 0 < n) (h : x + y < 3 * n) where
   m-of-near : 6 * n ≤ q → Near (q * q) (n * mOf n y (pOf n x) * (q - pOf n x)) y
   m-of-near hq = rw p-and-rest at (m-near n y (pOf n x) (q - pOf n x) hn (omega (arith, p-of-below)) (rw p-and-rest hq))
 
-pub centre-p-below : (k : ℕ) (f : Frame) → span f ≤ 2 ^ k → centreP k f < q
+pub centre-p-below : (k : ℕ) (f : Triangle) → span f ≤ 2 ^ k → centreP k f < q
 unfolding centreP
 centre-p-below k f h = p-of-below (2 ^ k) (3 * row f + thirds f) (3 * col f + thirds f) (pow-pos k) (thirds-fit (2 ^ k) f h)
 
-pub centre-m-below : (k : ℕ) (f : Frame) → span f ≤ 2 ^ k → centreM k f < q
+pub centre-m-below : (k : ℕ) (f : Triangle) → span f ≤ 2 ^ k → centreM k f < q
 unfolding centreP centreM
 centre-m-below k f h = m-of-below (2 ^ k) (3 * row f + thirds f) (3 * col f + thirds f) (pow-pos k) (thirds-fit (2 ^ k) f h)
 
-pub centre-p-positive : (k : ℕ) (f : Frame) → 6 * 2 ^ k ≤ q → 1 ≤ centreP k f
+pub centre-p-positive : (k : ℕ) (f : Triangle) → 6 * 2 ^ k ≤ q → 1 ≤ centreP k f
 unfolding centreP
 centre-p-positive k f h = p-positive q (2 ^ k) (3 * row f + thirds f) (pow-pos k) (omega arith) (omega (arith, thirds-positive f))
 
 -- ---- the return: the cell at a cell's centre is the cell
 
-pub centre-held : (k : ℕ) (f : Frame) → 6 * 2 ^ k ≤ q → span f ≤ 2 ^ k → Holds k (centreP k f) (centreM k f) f
+pub centre-held : (k : ℕ) (f : Triangle) → 6 * 2 ^ k ≤ q → span f ≤ 2 ^ k → Holds k (centreP k f) (centreM k f) f
 unfolding scaledT scaledR centreP centreM
 centre-held k f hq h =
     let x = 3 * row f + thirds f in
     let y = 3 * col f + thirds f in
     held-holds k (centreP k f) (centreM k f) f
-    (near-frame (q * q) (scaledT k (centreP k f)) (scaledR k (centreP k f) (centreM k f)) f (omega arith)
+    (near-triangle (q * q) (scaledT k (centreP k f)) (scaledR k (centreP k f) (centreM k f)) f (omega arith)
     (p-near q (2 ^ k) x (pow-pos k) hq)
     (m-of-near (2 ^ k) x y (pow-pos k) (thirds-fit (2 ^ k) f h) hq))
 
-centre-frame : (k : ℕ) (f : Frame) → 6 * 2 ^ k ≤ q → span f ≤ 2 ^ k → frameAt k (centreP k f) (centreM k f) ≡ f
-centre-frame k f hq h =
-    frame-below k (centreP k f) (centreM k f) (centre-p-below k f h) ∙ sym (holds-holder k (centreP k f) (centreM k f) f (centre-held k f hq h))
+centre-triangle : (k : ℕ) (f : Triangle) → 6 * 2 ^ k ≤ q → span f ≤ 2 ^ k → triangleAt k (centreP k f) (centreM k f) ≡ f
+centre-triangle k f hq h =
+    triangle-below k (centreP k f) (centreM k f) (centre-p-below k f h) ∙ sym (holds-holder k (centreP k f) (centreM k f) f (centre-held k f hq h))
 
 -- the latitude of size p of an octant below 8: its size, and the octant that its sign makes of the northern one
 latitude-size : (o p : ℕ) → natAbs (latitudeOf o p) ≡ p
@@ -181,7 +181,7 @@ centre-return k c hq h =
     let hm = centre-m-below k (c .1) (h .1) in
     let x = beginning (c .0) +ℤ pos m in
     let o = latitude-octant (c .0) p x (h .0) (centre-p-positive k (c .1) hq) (beginning-octant (c .0) m hm) in
-    rw (o, latitude-size (c .0) p, beginning-offset (c .0) m hm, centre-frame k (c .1) hq (h .1))
+    rw (o, latitude-size (c .0) p, beginning-offset (c .0) m hm, centre-triangle k (c .1) hq (h .1))
 
 -- ---- where centres lie: a centre's latitude is neither 0 nor a pole, and its longitude lies in its octant
 

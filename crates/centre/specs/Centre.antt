@@ -5,22 +5,22 @@ use mathlib.Core.Bool.{cond}
 use lib.Dec.{ltb}
 use lib.IntN.{ℤ, pos, negℤ, _+ℤ_}
 use Rattle.refusal.specs.Answer.{Answer, given, refused, inOrder}
-use Rattle.cell.specs.Cell.{Frame, up, down, row, col, Place, place, cellTests}
+use Rattle.cell.specs.Cell.{Triangle, up, down, row, col, Place, place, cellTests}
 use Rattle.position.specs.Position.{q, beginning}
 use Rattle.centre.specs.declared.CentreAnswer.{CentreAnswer}
 use Rattle.centre.specs.declared.CentreAnswer.the-variants as centre-answer
 
 -- the paper's s: 1 for up and 2 for down
-unfoldable pub thirds : Frame → ℕ
+unfoldable pub thirds : Triangle → ℕ
 thirds (up a b) = 1
 thirds (down a b) = 2
 
 -- p is the whole part of q(3a+s)/(3N)
-unfoldable pub centreP : ℕ → Frame → ℕ
+unfoldable pub centreP : ℕ → Triangle → ℕ
 centreP k f = q * (3 * row f + thirds f) / (3 * 2 ^ k)
 
 -- m is the whole part of (3b+s)·q²/(3N(q−p))
-unfoldable pub centreM : ℕ → Frame → ℕ
+unfoldable pub centreM : ℕ → Triangle → ℕ
 centreM k f = (3 * col f + thirds f) * (q * q) / (3 * 2 ^ k * (q - centreP k f))
 
 -- the latitude of size p of an octant: p, in the south −p

@@ -10,8 +10,8 @@ use lib.Dec.{leb}
 use lib.IntN.{ℤ, pos, natAbs}
 use lib.ListN.{getD}
 use Rattle.refusal.proofs.Tests.{same-test}
-use Rattle.cell.specs.Cell.{Frame, up, down, span, Place, place, Occurs}
-use Rattle.corner.specs.Corner.{Point, coordinate, norm, minus, quarters, equatorial, polar, pointIn, corner, frameCorners, corners, touches}
+use Rattle.cell.specs.Cell.{Triangle, up, down, span, Place, place, Occurs}
+use Rattle.corner.specs.Corner.{Point, coordinate, norm, minus, quarters, equatorial, polar, pointIn, corner, triangleCorners, corners, touches}
 use Rattle.corner.proofs.Octants.{octant-cases}
 use Rattle.corner.proofs.Common.{index-cases, three, eqb-mutual, common-symmetric}
 
@@ -100,7 +100,7 @@ point-told o l r t l′ r′ t′ e =
 -- ---- the three corners of a cell
 
 -- T and R of corner i: they lie in the octant, and tell i
-record Numbered (k o : ℕ) (f : Frame) (x : Point) (n : ℕ) : Type 0 where
+record Numbered (k o : ℕ) (f : Triangle) (x : Point) (n : ℕ) : Type 0 where
   t : ℕ
   r : ℕ
   is : x ≡ corner k o t r
@@ -108,12 +108,12 @@ record Numbered (k o : ℕ) (f : Frame) (x : Point) (n : ℕ) : Type 0 where
   tells : t + 2 * r ≡ n
 
 -- t + 2 r of the first corner
-first : Frame → ℕ
+first : Triangle → ℕ
 first (up a b) = a + 2 * b
 first (down a b) = a + 2 * b + 1
 
-number-corner : (k o : ℕ) (f : Frame) (i : ℕ) → i < 3 → Numbered k o f (getD (frameCorners k o f) i []) (first f + i)
-unfolding frameCorners first span
+number-corner : (k o : ℕ) (f : Triangle) (i : ℕ) → i < 3 → Numbered k o f (getD (triangleCorners k o f) i []) (first f + i)
+unfolding triangleCorners first span
 number-corner k o (up a b) = index-cases _
     (record { t = a; r = b; is = refl; inside = omega arith; tells = omega arith })
     (record { t = a + 1; r = b; is = refl; inside = omega arith; tells = omega arith })

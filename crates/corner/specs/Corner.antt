@@ -7,7 +7,7 @@ use lib.IntN.{ℤ, pos, negsuc, negℤ, natAbs}
 use lib.ListN.{getD}
 use Rattle.refusal.specs.Answer.{Answer, given, refused, inOrder}
 use Rattle.refusal.specs.Tests.{badLevel}
-use Rattle.cell.specs.Cell.{Frame, up, down, Place, place, maxLevel, badCell}
+use Rattle.cell.specs.Cell.{Triangle, up, down, Place, place, maxLevel, badCell}
 use Rattle.corner.specs.declared.TouchAnswer.{TouchAnswer}
 use Rattle.corner.specs.declared.TouchAnswer.the-variants as touch-answer
 
@@ -51,12 +51,12 @@ unfoldable pub corner : ℕ → ℕ → ℕ → ℕ → Point
 corner k o t r = pointIn o (2 ^ k - t - r) r t
 
 -- the three corners of a cell
-unfoldable pub frameCorners : ℕ → ℕ → Frame → List Point
-frameCorners k o (up a b) = corner k o a b ∷ corner k o (a + 1) b ∷ corner k o a (b + 1) ∷ []
-frameCorners k o (down a b) = corner k o (a + 1) b ∷ corner k o a (b + 1) ∷ corner k o (a + 1) (b + 1) ∷ []
+unfoldable pub triangleCorners : ℕ → ℕ → Triangle → List Point
+triangleCorners k o (up a b) = corner k o a b ∷ corner k o (a + 1) b ∷ corner k o a (b + 1) ∷ []
+triangleCorners k o (down a b) = corner k o (a + 1) b ∷ corner k o a (b + 1) ∷ corner k o (a + 1) (b + 1) ∷ []
 
 abbrev pub corners : ℕ → Place → List Point
-corners k p = frameCorners k (p .0) (p .1)
+corners k p = triangleCorners k (p .0) (p .1)
 
 -- ---- touching
 

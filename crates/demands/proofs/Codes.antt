@@ -8,7 +8,7 @@ use native.Mathlib.Numerals.{add-one}
 use native.Mathlib.Omega.{arith}
 use Rattle.refusal.specs.Answer.{given}
 use Rattle.refusal.proofs.Tests.{clash}
-use Rattle.cell.specs.Cell.{Frame, up, down, Place, place, cells, maxLevel, placeCall}
+use Rattle.cell.specs.Cell.{Triangle, up, down, Place, place, cells, maxLevel, placeCall}
 use Rattle.cell.proofs.Answers.{Given, in-range, given-place, accepts}
 use Rattle.step.specs.Step.{across, east, west, codeTo, stepCall}
 use Rattle.step.specs.Neighbours.{direct, isDirect, directCode}
@@ -41,7 +41,7 @@ module _ (k n m c : ℕ) where
 
 -- ---- inside an octant: the paper's lines, and the relation that the laws of steps go by
 
-to-line : {f : Frame} {c : ℕ} {g : Frame} → Inner f c g → Inside c f g
+to-line : {f : Triangle} {c : ℕ} {g : Triangle} → Inner f c g → Inside c f g
 to-line (laws.up-t {a} {a′} {b} e) = let h : a′ + 1 ≡ a = omega arith in subst (λ (i : ℕ). Inside 0 (up i b) (down a′ b)) h up-t
 to-line (laws.up-l {a} {b} {b′} e) = let h : b′ + 1 ≡ b = omega arith in subst (λ (i : ℕ). Inside 1 (up a i) (down a b′)) h up-l
 to-line laws.up-r = up-r
@@ -53,7 +53,7 @@ to-line (laws.down-r {a} {b} {b′} e) = let h : b + 1 ≡ b′ = omega arith in
 to-line (laws.down-e {a} {b} {b′} e) = let h : b + 1 ≡ b′ = omega arith in subst (λ (i : ℕ). Inside 3 (down a b) (down a i)) h down-e
 to-line (laws.down-w {a} {b} {b′} e) = let h : b′ + 1 ≡ b = omega arith in subst (λ (i : ℕ). Inside 4 (down a i) (down a b′)) h down-w
 
-of-line : {c : ℕ} {f g : Frame} → Inside c f g → Inner f c g
+of-line : {c : ℕ} {f g : Triangle} → Inside c f g → Inner f c g
 of-line (up-t {a} {b}) = laws.up-t (add-one a)
 of-line (up-l {a} {b}) = laws.up-l (add-one b)
 of-line up-r = laws.up-r
@@ -67,14 +67,14 @@ of-line (down-w {a} {b}) = laws.down-w (add-one b)
 
 -- a move along a code below 5 is one of the lines
 on-line : (k : ℕ) {p : Place} {c : ℕ} {r : Place} → c < 5 → Move k p c r →
-    (o : ℕ) × (f : Frame) × (g : Frame) × (p ≡ (o, f)) × (r ≡ (o, g)) × Inside c f g
+    (o : ℕ) × (f : Triangle) × (g : Triangle) × (p ≡ (o, f)) × (r ≡ (o, g)) × Inside c f g
 on-line k h (stay {o} {c} {f} {f′} i s) = (o, f, f′, refl, refl, to-line i)
 on-line k h (over-T x e) = absurd (omega arith)
 on-line k h (over-E x e z) = absurd (omega arith)
 on-line k h (over-W x e z) = absurd (omega arith)
 
 pub inside-octant : (k n m c : ℕ) → c < 5 → (stepCall k n c ≡ given m) ↔
-    ((o : ℕ) × (f : Frame) × (g : Frame) × (placeCall k n ≡ given (o, f)) × (placeCall k m ≡ given (o, g)) × Inside c f g)
+    ((o : ℕ) × (f : Triangle) × (g : Triangle) × (placeCall k n ≡ given (o, f)) × (placeCall k m ≡ given (o, g)) × Inside c f g)
 inside-octant k n m c h = (
   (λ e. let w = on-line k h (move-of k n m c e) in (w .0, w .1, w .2, from-place k n m c _ e (w .3), to-place k n m c _ e (w .4), w .5)),
   (λ w. moved k n m c (w .0, w .1) (w .0, w .2) (w .3) (w .4) (stay (of-line (w .5)) (given-place k m (w .0, w .2) (sym (w .4)) .occurs .1))),

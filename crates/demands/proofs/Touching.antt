@@ -14,11 +14,11 @@ use Rattle.refusal.specs.Answer.{Test, _when_, given, inOrder}
 use Rattle.refusal.specs.Tests.{badLevel, badLength}
 use Rattle.refusal.proofs.Answers.{passed, gives}
 use Rattle.refusal.proofs.Tests.{clash, both, parts}
-use Rattle.cell.specs.Cell.{Frame, up, down, Place, place, cells, maxLevel, badCell}
+use Rattle.cell.specs.Cell.{Triangle, up, down, Place, place, cells, maxLevel, badCell}
 use Rattle.step.specs.Neighbours.{direct}
 use Rattle.step.specs.Step.{stepCall}
 use Rattle.step.proofs.Calls.{stepped}
-use Rattle.corner.specs.Corner.{Point, coordinate, pointIn, corner, frameCorners, corners, common, touches, touchCall}
+use Rattle.corner.specs.Corner.{Point, coordinate, pointIn, corner, triangleCorners, corners, common, touches, touchCall}
 use Rattle.corner.proofs.Common.{index-cases, three, same-coordinates, common-meeting, shared-common}
 use Rattle.corner.proofs.Laws.{touches-symmetric}
 use Rattle.touch.specs.Touch.{rising, touching, unused, padded, listCall}
@@ -79,22 +79,22 @@ neighbours-touch k n m c d e =
 
 -- corner i stands in the list of corners, and is its three numbers
 corner-in : (k : ℕ) (p : Place) (i : ℕ) → i < 3 → In (getD (corners k p) i []) (corners k p)
-unfolding frameCorners
+unfolding triangleCorners
 corner-in k p i h = go (p .1)
   where
-    go : (f : Frame) → In (getD (frameCorners k (p .0) f) i []) (frameCorners k (p .0) f)
+    go : (f : Triangle) → In (getD (triangleCorners k (p .0) f) i []) (triangleCorners k (p .0) f)
     go (up a b) =
-        let l = frameCorners k (p .0) (up a b) in
+        let l = triangleCorners k (p .0) (up a b) in
         index-cases (λ i. In (getD l i []) l) (inl refl) (inr (inl refl)) (inr (inr (inl refl))) i h
     go (down a b) =
-        let l = frameCorners k (p .0) (down a b) in
+        let l = triangleCorners k (p .0) (down a b) in
         index-cases (λ i. In (getD l i []) l) (inl refl) (inr (inl refl)) (inr (inr (inl refl))) i h
 
 in-corner : (k : ℕ) (p : Place) (x : Point) → In x (corners k p) → (i : ℕ) × (i < 3) × (x ≡ getD (corners k p) i [])
-unfolding frameCorners
+unfolding triangleCorners
 in-corner k p x e = go (p .1) e
   where
-    go : (f : Frame) → In x (frameCorners k (p .0) f) → (i : ℕ) × (i < 3) × (x ≡ getD (frameCorners k (p .0) f) i [])
+    go : (f : Triangle) → In x (triangleCorners k (p .0) f) → (i : ℕ) × (i < 3) × (x ≡ getD (triangleCorners k (p .0) f) i [])
     go (up a b) (inl e) = (0, omega arith, e)
     go (up a b) (inr (inl e)) = (1, omega arith, e)
     go (up a b) (inr (inr (inl e))) = (2, omega arith, e)
@@ -108,15 +108,15 @@ abbrev numbers : Point → Point
 numbers x = coordinate x 0 ∷ coordinate x 1 ∷ coordinate x 2 ∷ []
 
 corner-numbers : (k : ℕ) (p : Place) (i : ℕ) → i < 3 → getD (corners k p) i [] ≡ numbers (getD (corners k p) i [])
-unfolding frameCorners corner pointIn
+unfolding triangleCorners corner pointIn
 corner-numbers k p i h = go (p .1)
   where
-    go : (f : Frame) → getD (frameCorners k (p .0) f) i [] ≡ numbers (getD (frameCorners k (p .0) f) i [])
+    go : (f : Triangle) → getD (triangleCorners k (p .0) f) i [] ≡ numbers (getD (triangleCorners k (p .0) f) i [])
     go (up a b) =
-        let l = frameCorners k (p .0) (up a b) in
+        let l = triangleCorners k (p .0) (up a b) in
         index-cases (λ i. getD l i [] ≡ numbers (getD l i [])) refl refl refl i h
     go (down a b) =
-        let l = frameCorners k (p .0) (down a b) in
+        let l = triangleCorners k (p .0) (down a b) in
         index-cases (λ i. getD l i [] ≡ numbers (getD l i [])) refl refl refl i h
 
 -- two places have a point in common where one of it stands in both lists

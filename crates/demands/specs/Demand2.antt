@@ -10,7 +10,7 @@ use lib.ListN.{length, take, drop, replicate}
 use lib.Ieee.{Float}
 use Rattle.refusal.specs.Answer.{Answer, given, refused, done}
 use Rattle.bitset.specs.Bits.{Bytes, marked, size}
-use Rattle.cell.specs.Cell.{Frame, up, down, child, Place, place, Occurs, cells, maxLevel, placeCall, numberCall}
+use Rattle.cell.specs.Cell.{Triangle, up, down, child, Place, place, Occurs, cells, maxLevel, placeCall, numberCall}
 use Rattle.position.specs.Position.{q, latitudeOut, longitudeOut, beginning, northOctant, offset, octant, Holds, cellCall}
 use Rattle.centre.specs.Centre.{centreCall}
 use Rattle.step.specs.Step.{across, east, west, stepCall, codeCall}
@@ -25,8 +25,8 @@ use Rattle.day.specs.Day.{nought, Summary, isFresh, Coldest, Warmest, dayCall}
 
 -- ---- the steps inside an octant, line by line
 
--- the codes 0 to 4 are t, l, r, e, w: along the code, from one frame to another
-pub data Inside : ℕ → Frame → Frame → Type 0 where
+-- the codes 0 to 4 are t, l, r, e, w: along the code, from one triangle to another
+pub data Inside : ℕ → Triangle → Triangle → Type 0 where
   up-t : {a b : ℕ} → Inside 0 (up (a + 1) b) (down a b)
   up-l : {a b : ℕ} → Inside 1 (up a (b + 1)) (down a b)
   up-r : {a b : ℕ} → Inside 2 (up a b) (down a b)
@@ -104,7 +104,7 @@ pub record Demand2 : Type 0 where
   -- t, l, r, e and w lead where the paper's lines say, and inside the octant only
   pub inside-octant : (k n m c : ℕ) → c < 5 →
       (stepCall k n c ≡ given m) ↔
-      ((o : ℕ) × (f : Frame) × (g : Frame) × (placeCall k n ≡ given (o, f)) × (placeCall k m ≡ given (o, g)) × Inside c f g)
+      ((o : ℕ) × (f : Triangle) × (g : Triangle) × (placeCall k n ≡ given (o, f)) × (placeCall k m ≡ given (o, g)) × Inside c f g)
   -- a = 0 gives T, the same (a,b) in the other hemisphere; for up cells alone
   pub T-leads : (k n m : ℕ) → (stepCall k n 5 ≡ given m) ↔
       ((o : ℕ) × (b : ℕ) × (placeCall k n ≡ given (o, up 0 b)) × (placeCall k m ≡ given (across o, up 0 b)))

@@ -9,7 +9,7 @@ use native.Mathlib.Omega.{arith}
 use Rattle.refusal.proofs.Tests.{clash}
 use Rattle.cell.specs.declared.Kind.{Kind}
 use Rattle.cell.specs.declared.Kind.the-variants.{Up, Down}
-use Rattle.cell.specs.Cell.{Frame, up, down, row, col, span, frameOf, Place, place, Occurs, cells}
+use Rattle.cell.specs.Cell.{Triangle, up, down, row, col, span, triangleOf, Place, place, Occurs, cells}
 use Rattle.cell.proofs.Laws.{place-occurs}
 use Rattle.step.specs.Step.{across, east, west, codeTo}
 use Rattle.step.specs.Neighbours.{direct, directCode, isDirect}
@@ -37,7 +37,7 @@ direct-move k n m h e = go (codeTo k m (place k n)) refl e
 -- ---- from cells to spots
 
 -- the rows in which a cell lies, and its spot there
-unfoldable pub kindOf : Frame → Kind
+unfoldable pub kindOf : Triangle → Kind
 kindOf (up a b) = Up
 kindOf (down a b) = Down
 
@@ -48,7 +48,7 @@ module _ (k : ℕ) (low : k ≤ 8) where
   bound : 2 ^ k ≤ 256
   bound = size-low k low
 
-  inner-near : {o : ℕ} {f g : Frame} {c : ℕ} → Inner f c g → direct c ≡ true → o < 8 → span f ≤ 2 ^ k → span g ≤ 2 ^ k →
+  inner-near : {o : ℕ} {f g : Triangle} {c : ℕ} → Inner f c g → direct c ≡ true → o < 8 → span f ≤ 2 ^ k → span g ≤ 2 ^ k →
       Near k (kindOf f) (spotOf (o, f)) (kindOf g) (spotOf (o, g))
   unfolding kindOf spotOf row col span direct
   inner-near {o} (up-t {a} {a′} {b} e) d h x y =
@@ -101,8 +101,8 @@ module _ (k : ℕ) (low : k ≤ 8) where
   one-spot : (o a b o′ a′ b′ : ℕ) → a + b < 2 ^ k → a′ + b′ < 2 ^ k → spot o a b ≡ spot o′ a′ b′ → (o ≡ o′) × (a ≡ a′) × (b ≡ b′)
   one-spot o a b o′ a′ b′ h l e = let n = bound in spot-same o a b o′ a′ b′ (omega arith) (omega arith) (omega arith) (omega arith) e
 
-  beside-leads : {s t : Kind} {i j : ℕ} → Beside s i t j → (o a b o′ a′ b′ : ℕ) → Occurs k (o, frameOf s a b) → Occurs k (o′, frameOf t a′ b′) →
-      spot o a b ≡ i → spot o′ a′ b′ ≡ j → Leads (o, frameOf s a b) (o′, frameOf t a′ b′)
+  beside-leads : {s t : Kind} {i j : ℕ} → Beside s i t j → (o a b o′ a′ b′ : ℕ) → Occurs k (o, triangleOf s a b) → Occurs k (o′, triangleOf t a′ b′) →
+      spot o a b ≡ i → spot o′ a′ b′ ≡ j → Leads (o, triangleOf s a b) (o′, triangleOf t a′ b′)
   unfolding span direct
   beside-leads (down-here e) o a b o′ a′ b′ x y p q =
       let w = one-spot o a b o′ a′ b′ (omega (arith, x .1)) (omega (arith, y .1)) (p ∙ e ∙ sym q) in
@@ -124,7 +124,7 @@ module _ (k : ℕ) (low : k ≤ 8) where
       (0, refl, rw (w .0, w .2) (stay (down-t (w .1 ∙ add-one a)) (rw (w .2) at (y .1))))
 
   edges-lead : (v n : ℕ) → v < 8 → n < 2 ^ k → (s t : Kind) (i j : ℕ) → Edges k v n s i t j → (o a b o′ a′ b′ : ℕ) →
-      Occurs k (o, frameOf s a b) → Occurs k (o′, frameOf t a′ b′) → spot o a b ≡ i → spot o′ a′ b′ ≡ j → Leads (o, frameOf s a b) (o′, frameOf t a′ b′)
+      Occurs k (o, triangleOf s a b) → Occurs k (o′, triangleOf t a′ b′) → spot o a b ≡ i → spot o′ a′ b′ ≡ j → Leads (o, triangleOf s a b) (o′, triangleOf t a′ b′)
   unfolding span direct across east west
   edges-lead v n hv hn Down t i j (inl m) o a b o′ a′ b′ x y p q = never (m .0)
   edges-lead v n hv hn Down t i j (inr m) o a b o′ a′ b′ x y p q = never (m .0)
@@ -164,7 +164,7 @@ module _ (k : ℕ) (low : k ≤ 8) where
           (5, refl, rw (ea, eb) (over-T e (f .1)))
 
   pub near-direct : (s t : Kind) (i j : ℕ) → Near k s i t j → (n m o a b o′ a′ b′ : ℕ) → n < cells k → m < cells k →
-      place k n ≡ (o, frameOf s a b) → spot o a b ≡ i → place k m ≡ (o′, frameOf t a′ b′) → spot o′ a′ b′ ≡ j → isDirect k n m ≡ true
+      place k n ≡ (o, triangleOf s a b) → spot o a b ≡ i → place k m ≡ (o′, triangleOf t a′ b′) → spot o′ a′ b′ ≡ j → isDirect k n m ≡ true
   near-direct s t i j z n m o a b o′ a′ b′ hn hm en p em q =
       let x = subst (Occurs k) en (place-occurs k n hn) in
       let y = subst (Occurs k) em (place-occurs k m hm) in

@@ -14,7 +14,7 @@ use Rattle.bitset.proofs.Laws.{marked-marking, length-bytesOf}
 use Rattle.bitset.proofs.Outside.{complement-marks, marked-zeros}
 use Rattle.cell.specs.declared.Kind.{Kind}
 use Rattle.cell.specs.declared.Kind.the-variants.{Up, Down}
-use Rattle.cell.specs.Cell.{Frame, frameOf, cells}
+use Rattle.cell.specs.Cell.{Triangle, triangleOf, cells}
 use Rattle.raster.specs.Raster.{isMask, cellAt}
 use Rattle.raster.proofs.Held.{at-cong}
 use Rattle.rows.specs.Rows.{lit}
@@ -26,17 +26,17 @@ is-mask k a h e = both (leb k 8) (eqb (length a) (4 ^ k)) (le-leb k 8 h) (eq-eqb
 
 -- a mask in rows
 pub in-rows : (k : ℕ) (X : ℕ → Bool) (a u₀ d₀ u d : List ℕ) → k ≤ 8 → length a ≡ 4 ^ k → ((c : ℕ) → c < cells k → marked a c ≡ X c) →
-    ((i : ℕ) → lit u i ≡ cond (isMask k a) (cellAt Frame.up k (marked a) i) (lit u₀ i)) →
-    ((i : ℕ) → lit d i ≡ cond (isMask k a) (cellAt Frame.down k (marked a) i) (lit d₀ i)) →
-    (t : Kind) (i : ℕ) → litOf u d t i ≡ cellAt (frameOf t) k X i
+    ((i : ℕ) → lit u i ≡ cond (isMask k a) (cellAt Triangle.up k (marked a) i) (lit u₀ i)) →
+    ((i : ℕ) → lit d i ≡ cond (isMask k a) (cellAt Triangle.down k (marked a) i) (lit d₀ i)) →
+    (t : Kind) (i : ℕ) → litOf u d t i ≡ cellAt (triangleOf t) k X i
 in-rows k X a u₀ d₀ u d h e f p q = go
   where
     there : (b c : Bool) → cond (isMask k a) b c ≡ b
     there b c = rw (is-mask k a h e)
 
-    go : (t : Kind) (i : ℕ) → litOf u d t i ≡ cellAt (frameOf t) k X i
-    go Up i = p i ∙ there (cellAt Frame.up k (marked a) i) (lit u₀ i) ∙ at-cong k Up (marked a) X i f
-    go Down i = q i ∙ there (cellAt Frame.down k (marked a) i) (lit d₀ i) ∙ at-cong k Down (marked a) X i f
+    go : (t : Kind) (i : ℕ) → litOf u d t i ≡ cellAt (triangleOf t) k X i
+    go Up i = p i ∙ there (cellAt Triangle.up k (marked a) i) (lit u₀ i) ∙ at-cong k Up (marked a) X i f
+    go Down i = q i ∙ there (cellAt Triangle.down k (marked a) i) (lit d₀ i) ∙ at-cong k Down (marked a) X i f
 
 -- a slice copied into another of its length
 copied : (s d l : List ℕ) → length s ≡ length d → l ≡ take (length s) s ++ drop (length s) d → l ≡ s

@@ -10,36 +10,36 @@ use Rattle.refusal.proofs.Tests.{same-test, both, parts}
 use Rattle.bitset.specs.Bits.{bytesOf, outside}
 use Rattle.bitset.proofs.Laws.{bytesOf-cong}
 use Rattle.cell.specs.declared.Kind.{Kind}
-use Rattle.cell.specs.Cell.{Frame, up, down, row, col, frameOf, place, cells}
+use Rattle.cell.specs.Cell.{Triangle, up, down, row, col, triangleOf, place, cells}
 use Rattle.step.specs.Neighbours.{isDirect}
 use Rattle.mask.specs.Reach.{reaches}
 use Rattle.mask.proofs.Reach.{reach-zero, reach-out}
-use Rattle.raster.specs.Raster.{cellAt, frameLit, cellLit}
+use Rattle.raster.specs.Raster.{cellAt, triangleLit, cellLit}
 use Rattle.raster.proofs.Held.{at-cell, Found, found}
 use Rattle.flood.specs.Flood.{litOf, Near, Closed, Flooded}
 use Rattle.fill.specs.Fill.{openStep, reachable}
 use Rattle.fill.proofs.Laws.{reachable-self, reachable-step}
 use Rattle.fill.proofs.Beside.{kindOf, spotOf, direct-near, near-direct}
 
--- a frame is that of its kind, row and column
-frame-again : (f : Frame) → f ≡ frameOf (kindOf f) (row f) (col f)
+-- a triangle is that of its kind, row and column
+triangle-again : (f : Triangle) → f ≡ triangleOf (kindOf f) (row f) (col f)
 unfolding kindOf row col
-frame-again (up a b) = refl
-frame-again (down a b) = refl
+triangle-again (up a b) = refl
+triangle-again (down a b) = refl
 
 -- whether a cell's spot is set
-frame-spot : (u d : List ℕ) (o : ℕ) (f : Frame) → frameLit u d o f ≡ litOf u d (kindOf f) (spotOf (o, f))
-unfolding frameLit kindOf spotOf row col
-frame-spot u d o (up a b) = refl
-frame-spot u d o (down a b) = refl
+triangle-spot : (u d : List ℕ) (o : ℕ) (f : Triangle) → triangleLit u d o f ≡ litOf u d (kindOf f) (spotOf (o, f))
+unfolding triangleLit kindOf spotOf row col
+triangle-spot u d o (up a b) = refl
+triangle-spot u d o (down a b) = refl
 
 cell-spot : (k : ℕ) (u d : List ℕ) (c : ℕ) → cellLit k u d c ≡ litOf u d (kindOf (place k c .1)) (spotOf (place k c))
 unfolding cellLit
-cell-spot k u d c = frame-spot u d (place k c .0) (place k c .1)
+cell-spot k u d c = triangle-spot u d (place k c .0) (place k c .1)
 
 module _ (k o : ℕ) (A : ℕ → Bool) (low : k ≤ 8) (ho : o < cells k) (ou od u₀ d₀ u d : List ℕ)
-    (opened : (t : Kind) (i : ℕ) → litOf ou od t i ≡ cellAt (frameOf t) k (outside A) i)
-    (start : (t : Kind) (i : ℕ) → litOf u₀ d₀ t i ≡ cellAt (frameOf t) k (eqb o) i)
+    (opened : (t : Kind) (i : ℕ) → litOf ou od t i ≡ cellAt (triangleOf t) k (outside A) i)
+    (start : (t : Kind) (i : ℕ) → litOf u₀ d₀ t i ≡ cellAt (triangleOf t) k (eqb o) i)
     (flooded : Flooded k ou od u₀ d₀ u d) where
   abbrev R : ℕ → Bool
   R c = reachable k A o c
@@ -51,17 +51,17 @@ module _ (k o : ℕ) (A : ℕ → Bool) (low : k ≤ 8) (ho : o < cells k) (ou o
   abbrev spotAt : ℕ → ℕ
   spotAt c = spotOf (place k c)
 
-  in-cell : (X : ℕ → Bool) (c : ℕ) → c < cells k → cellAt (frameOf (kindAt c)) k X (spotAt c) ≡ X c
+  in-cell : (X : ℕ → Bool) (c : ℕ) → c < cells k → cellAt (triangleOf (kindAt c)) k X (spotAt c) ≡ X c
   unfolding spotOf
   in-cell X c h =
       let f = place k c .1 in
-      at-cell k (kindOf f) X c (place k c .0) (row f) (col f) low h (ap (λ (g : Frame). (place k c .0, g)) (frame-again f))
+      at-cell k (kindOf f) X c (place k c .0) (row f) (col f) low h (ap (λ (g : Triangle). (place k c .0, g)) (triangle-again f))
 
   -- ---- what is set can be reached
 
   -- the spots of the cells that can be reached
   abbrev P : Kind → ℕ → Bool
-  P t i = cellAt (frameOf t) k R i
+  P t i = cellAt (triangleOf t) k R i
 
   found-there : {t : Kind} {i : ℕ} {X : ℕ → Bool} (y : Found k t X i) → R (y .cell) ≡ true → P t i ≡ true
   found-there {t} y r = subst (λ (v : ℕ). P t v ≡ true) (y .again) (at-cell k t R (y .cell) _ _ _ low (y .below) (y .at) ∙ r)

@@ -5,7 +5,7 @@ ghost use lib.Dec.{eqb};
 ghost use lib.ListN.{length};
 ghost use Rattle.bitset.specs.Bits.{marked, bytesOf, outside};
 ghost use Rattle.cell.specs.declared.Kind.{Kind};
-ghost use Rattle.cell.specs.Cell.{frameOf, cells};
+ghost use Rattle.cell.specs.Cell.{triangleOf, cells};
 ghost use Rattle.mask.specs.Mask.{maxMaskLevel};
 ghost use Rattle.raster.specs.Raster.{cellAt};
 ghost use Rattle.flood.specs.Flood.{litOf};
@@ -22,7 +22,7 @@ fn open_cells(
 )
     requires { ⌜ (level ≤ maxMaskLevel) × (length (now border) ≡ 4 ^ level) × (length (now out) ≡ 4 ^ level) ⌝ }
     ensures { λ _. ⌜ ((t : Kind) (i : ℕ) →
-        litOf (now (up .exit)) (now (down .exit)) t i ≡ cellAt (frameOf t) level (outside (marked (now (border .entry)))) i) ⌝ }
+        litOf (now (up .exit)) (now (down .exit)) t i ≡ cellAt (triangleOf t) level (outside (marked (now (border .entry)))) i) ⌝ }
 {
     bytes::copy(border, out);
     bitset::complement(out);
@@ -38,7 +38,7 @@ fn one_cell(
     down: &mut [u64; 10330],
 )
     requires { ⌜ (level ≤ maxMaskLevel) × (length (now out) ≡ 4 ^ level) × (cell < cells level) ⌝ }
-    ensures { λ _. ⌜ ((t : Kind) (i : ℕ) → litOf (now (up .exit)) (now (down .exit)) t i ≡ cellAt (frameOf t) level (eqb cell) i) ⌝ }
+    ensures { λ _. ⌜ ((t : Kind) (i : ℕ) → litOf (now (up .exit)) (now (down .exit)) t i ≡ cellAt (triangleOf t) level (eqb cell) i) ⌝ }
 {
     bitset::clear(out);
     bitset::mark(out, cell);

@@ -12,10 +12,10 @@ use borrow.Author.Tests.{ltb-false, le-ltb}
 use Rattle.refusal.specs.Answer.{Test, given}
 use Rattle.refusal.specs.Tests.{badLevel}
 use Rattle.refusal.proofs.Answers.{passed, gives}
-use Rattle.cell.specs.Cell.{Frame, up, Place, place, number, maxLevel}
+use Rattle.cell.specs.Cell.{Triangle, up, Place, place, number, maxLevel}
 use Rattle.cell.proofs.Laws.{place-number, number-place}
 use Rattle.position.specs.Position.{q, latitudeOut, longitudeOut, octant, offset, Holds, placeAt, badLatitude, badLongitude, cellCall}
-use Rattle.position.proofs.Laws.{holder-holds, holds-unique, frame-below, frame-pole, place-at-occurs, number-nested}
+use Rattle.position.proofs.Laws.{holder-holds, holds-unique, triangle-below, triangle-pole, place-at-occurs, number-nested}
 
 -- the tests of the call
 abbrev tests : ℕ → ℤ → ℤ → List Test
@@ -48,7 +48,7 @@ answered k y x n e =
 pub answered-holds : (k : ℕ) (y x : ℤ) (n : ℕ) → cellCall k y x ≡ given n → natAbs y < q →
     (place k n .0 ≡ octant y x) × Holds k (natAbs y) (offset x) (place k n .1)
 unfolding placeAt
-answered-holds k y x n e h = rw (answered k y x n e .at, frame-below k (natAbs y) (offset x) h) (refl, holder-holds k (natAbs y) (offset x))
+answered-holds k y x n e h = rw (answered k y x n e .at, triangle-below k (natAbs y) (offset x) h) (refl, holder-holds k (natAbs y) (offset x))
 
 -- and no other cell of that octant does
 pub answered-alone : (k : ℕ) (y x : ℤ) (n m : ℕ) → cellCall k y x ≡ given n → natAbs y < q →
@@ -56,12 +56,12 @@ pub answered-alone : (k : ℕ) (y x : ℤ) (n m : ℕ) → cellCall k y x ≡ gi
 answered-alone k y x n m e h o f =
     let a = answered-holds k y x n e h in
     let g : place k m .1 ≡ place k n .1 = holds-unique k (natAbs y) (offset x) (place k m .1) (place k n .1) f (a .1) in
-    sym (number-place k m) ∙ ap₂ (λ (o : ℕ) (f : Frame). number k (o, f)) (o ∙ sym (a .0)) g ∙ number-place k n
+    sym (number-place k m) ∙ ap₂ (λ (o : ℕ) (f : Triangle). number k (o, f)) (o ∙ sym (a .0)) g ∙ number-place k n
 
 -- at a pole it is up(N−1,0) of the octant that the longitude names
 pub answered-pole : (k : ℕ) (y x : ℤ) (n : ℕ) → cellCall k y x ≡ given n → natAbs y ≡ q → place k n ≡ (octant y x, up (2 ^ k - 1) 0)
 unfolding placeAt
-answered-pole k y x n e h = answered k y x n e .at ∙ rw (h, frame-pole k (offset x))
+answered-pole k y x n e h = answered k y x n e .at ∙ rw (h, triangle-pole k (offset x))
 
 -- south is the mirror image of north: the place at −y is that at y, four octants on
 pub place-mirror : (k y : ℕ) (x : ℤ) → placeAt k (negsuc y) x ≡ (placeAt k (pos (suc y)) x .0 + 4, placeAt k (pos (suc y)) x .1)

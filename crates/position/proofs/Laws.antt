@@ -14,10 +14,10 @@ use lib.Signed.{ltZ}
 use lib.IntN.{ℤ, pos, negsuc, natAbs, _+ℤ_, subℕ}
 use borrow.Author.Tests.{lt-ltb, le-ltb, lt-leb, ne-eqb, leb-false, ltb-true, ltb-false, eqb-true, eqb-false}
 use Rattle.refusal.proofs.Tests.{clash}
-use Rattle.cell.specs.Cell.{Frame, up, down, Occurs, span, child, children, number, digits, maxLevel}
+use Rattle.cell.specs.Cell.{Triangle, up, down, Occurs, span, child, children, number, digits, maxLevel}
 use Rattle.cell.proofs.Laws.{digit-cases, as-child-child, shifted}
 use Rattle.position.specs.Position.{q, latitudeOut, longitudeOut, beginnings, beginning, fromWest, northOctant, offset, octant}
-use Rattle.position.specs.Position.{scaledT, scaledR, Holds, holder, frameAt, placeAt, Nested}
+use Rattle.position.specs.Position.{scaledT, scaledR, Holds, holder, triangleAt, placeAt, Nested}
 
 -- ---- longitudes
 
@@ -109,25 +109,25 @@ unfolding octant
 octant-below (pos n) x = omega (arith, north-octant-below x)
 octant-below (negsuc n) x = omega (arith, north-octant-below x)
 
--- ---- which frame holds a point (T, R) of units 1/Q
+-- ---- which triangle holds a point (T, R) of units 1/Q
 
--- what a frame holds, and the frame of the whole parts and what is left over: `Holds` and `holder` are these at Q = q²
-abbrev pub HoldsAt : ℕ → ℕ → ℕ → Frame → Type 0
+-- what a triangle holds, and the triangle of the whole parts and what is left over: `Holds` and `holder` are these at Q = q²
+abbrev pub HoldsAt : ℕ → ℕ → ℕ → Triangle → Type 0
 HoldsAt Q t r (up a b) = (a * Q ≤ t) × (b * Q ≤ r) × (t + r < (a + b + 1) * Q)
 HoldsAt Q t r (down a b) = (t < (a + 1) * Q) × (r < (b + 1) * Q) × ((a + b + 1) * Q ≤ t + r)
 
-abbrev holderAt : ℕ → ℕ → ℕ → Frame
+abbrev holderAt : ℕ → ℕ → ℕ → Triangle
 holderAt Q t r = cond (ltb (t % Q + r % Q) Q) (up (t / Q) (r / Q)) (down (t / Q) (r / Q))
 
--- a point in the frame's row and column is told from its whole parts
+-- a point in the triangle's row and column is told from its whole parts
 whole-part : (Q t a : ℕ) → a * Q ≤ t → t < (a + 1) * Q → (t / Q ≡ a) × (t % Q ≡ t - a * Q)
 whole-part Q t a l h =
     let e : t ≡ a * Q + (t - a * Q) = omega arith in
     let b : t - a * Q < Q = omega arith in
     (ap (λ (x : ℕ). x / Q) e ∙ digits-div a b, ap (λ (x : ℕ). x % Q) e ∙ digits-mod a b)
 
--- no other frame holds it
-point-unique : (Q t r : ℕ) (f : Frame) → HoldsAt Q t r f → f ≡ holderAt Q t r
+-- no other triangle holds it
+point-unique : (Q t r : ℕ) (f : Triangle) → HoldsAt Q t r f → f ≡ holderAt Q t r
 point-unique Q t r (up a b) h =
     let T = whole-part Q t a (h .0) (omega arith) in
     let R = whole-part Q r b (h .1) (omega arith) in
@@ -137,7 +137,7 @@ point-unique Q t r (down a b) h =
     let R = whole-part Q r b (omega arith) (h .1) in
     rw (T .0, T .1, R .0, R .1, le-ltb (t - a * Q + (r - b * Q)) Q (omega arith))
 
--- and that frame holds it
+-- and that triangle holds it
 point-held : (Q t r : ℕ) → 0 < Q → HoldsAt Q t r (holderAt Q t r)
 point-held Q t r h = by-rest (ltb (t % Q + r % Q) Q) refl
   where
@@ -148,9 +148,9 @@ point-held Q t r h = by-rest (ltb (t % Q + r % Q) Q) refl
     by-rest true e = omega (arith, parts, ltb-true (t % Q + r % Q) Q e)
     by-rest false e = omega (arith, parts, ltb-false (t % Q + r % Q) Q e)
 
--- ---- the cell answered holds the position, and no other frame does
+-- ---- the cell answered holds the position, and no other triangle does
 
-pub held-holds : (k p m : ℕ) (f : Frame) → HoldsAt (q * q) (scaledT k p) (scaledR k p m) f → Holds k p m f
+pub held-holds : (k p m : ℕ) (f : Triangle) → HoldsAt (q * q) (scaledT k p) (scaledR k p m) f → Holds k p m f
 unfolding Holds
 held-holds k p m (up a b) h = omega arith
 held-holds k p m (down a b) h = omega arith
@@ -159,31 +159,31 @@ pub holder-holds : (k p m : ℕ) → Holds k p m (holder k p m)
 unfolding holder
 holder-holds k p m = held-holds k p m (holder k p m) (point-held (q * q) (scaledT k p) (scaledR k p m) (omega arith))
 
-pub holds-holder : (k p m : ℕ) (f : Frame) → Holds k p m f → f ≡ holder k p m
+pub holds-holder : (k p m : ℕ) (f : Triangle) → Holds k p m f → f ≡ holder k p m
 unfolding Holds holder
 holds-holder k p m (up a b) h = point-unique (q * q) (scaledT k p) (scaledR k p m) (up a b) h
 holds-holder k p m (down a b) h = point-unique (q * q) (scaledT k p) (scaledR k p m) (down a b) h
 
-pub holds-unique : (k p m : ℕ) (f g : Frame) → Holds k p m f → Holds k p m g → f ≡ g
+pub holds-unique : (k p m : ℕ) (f g : Triangle) → Holds k p m f → Holds k p m g → f ≡ g
 holds-unique k p m f g h i = holds-holder k p m f h ∙ sym (holds-holder k p m g i)
 
--- below the pole the frame is the holder, at the pole the octant's last row
-frame-off : (k p m : ℕ) → eqb p q ≡ false → frameAt k p m ≡ holder k p m
-unfolding frameAt
-frame-off k p m e = rw e
+-- below the pole the triangle is the holder, at the pole the octant's last row
+triangle-off : (k p m : ℕ) → eqb p q ≡ false → triangleAt k p m ≡ holder k p m
+unfolding triangleAt
+triangle-off k p m e = rw e
 
-pub frame-below : (k p m : ℕ) → p < q → frameAt k p m ≡ holder k p m
-frame-below k p m h = frame-off k p m (ne-eqb p q (λ e. omega arith))
+pub triangle-below : (k p m : ℕ) → p < q → triangleAt k p m ≡ holder k p m
+triangle-below k p m h = triangle-off k p m (ne-eqb p q (λ e. omega arith))
 
-pub frame-pole : (k m : ℕ) → frameAt k q m ≡ up (2 ^ k - 1) 0
-unfolding frameAt
-frame-pole k m = refl
+pub triangle-pole : (k m : ℕ) → triangleAt k q m ≡ up (2 ^ k - 1) 0
+unfolding triangleAt
+triangle-pole k m = refl
 
 -- below the pole T + R stays below N
 sum-below : (n p m d : ℕ) → 0 < n → 0 < d → m < p + d → n * p * (p + d) + n * m * d < n * ((p + d) * (p + d))
 sum-below n p m d hn hd hm = omega (arith, mul-lt-mul-of-pos-left (mul-lt-mul-of-pos-right hm hd) hn)
 
-held-span : (Q n t r : ℕ) (f : Frame) → HoldsAt Q t r f → t + r < n * Q → span f ≤ n
+held-span : (Q n t r : ℕ) (f : Triangle) → HoldsAt Q t r f → t + r < n * Q → span f ≤ n
 unfolding span
 held-span Q n t r (up a b) h l = let s : a + b < n = lt-of-mul-lt-mul-right Q (omega arith) in omega arith
 held-span Q n t r (down a b) h l = let s : a + b + 1 < n = lt-of-mul-lt-mul-right Q (omega arith) in omega arith
@@ -199,17 +199,17 @@ pole-span : (k : ℕ) → span (up (2 ^ k - 1) 0) ≤ 2 ^ k
 unfolding span
 pole-span k = omega (arith, pow-pos k)
 
-pub frame-at-span : (k p m : ℕ) → p ≤ q → m < q → span (frameAt k p m) ≤ 2 ^ k
-frame-at-span k p m h i = at-pole (eqb p q) refl
+pub triangle-at-span : (k p m : ℕ) → p ≤ q → m < q → span (triangleAt k p m) ≤ 2 ^ k
+triangle-at-span k p m h i = at-pole (eqb p q) refl
   where
-    at-pole : (b : Bool) → eqb p q ≡ b → span (frameAt k p m) ≤ 2 ^ k
-    at-pole true e = rw (eqb-true p q e, frame-pole k m) (pole-span k)
-    at-pole false e = rw (frame-below k p m (lt-of-le-ne h (eqb-false p q e))) (holder-span k p m (lt-of-le-ne h (eqb-false p q e)) i)
+    at-pole : (b : Bool) → eqb p q ≡ b → span (triangleAt k p m) ≤ 2 ^ k
+    at-pole true e = rw (eqb-true p q e, triangle-pole k m) (pole-span k)
+    at-pole false e = rw (triangle-below k p m (lt-of-le-ne h (eqb-false p q e))) (holder-span k p m (lt-of-le-ne h (eqb-false p q e)) i)
 
 -- the place of a position in range occurs at its level
 pub place-at-occurs : (k : ℕ) (y x : ℤ) → latitudeOut y ≡ false → Occurs k (placeAt k y x)
 unfolding placeAt
-place-at-occurs k y x h = (octant-below y x, frame-at-span k (natAbs y) (offset x) (ltb-false q (natAbs y) h) (offset-below x))
+place-at-occurs k y x h = (octant-below y x, triangle-at-span k (natAbs y) (offset x) (ltb-false q (natAbs y) h) (offset-below x))
 
 -- ---- a product past 64 bits
 
@@ -258,7 +258,7 @@ module _ (k x : ℕ) (h : k ≤ maxLevel) where
   pub share-fits : x % (q * q / 2 ^ k) * 2 ^ k < q * q
   share-fits = rw share-rest (mod-lt (2 ^ k * x) (omega arith))
 
--- ---- the frame of a position, as the code computes it
+-- ---- the triangle of a position, as the code computes it
 
 -- N as the code shifts it, and its bounds
 pub rows-shifted : (k : ℕ) → k ≤ maxLevel → let n = 1 * 2 ^ k % 2 ^ 64 in (n ≡ 2 ^ k) × (1 ≤ n) × (n ≤ 2 ^ maxLevel)
@@ -282,8 +282,8 @@ module _ (k p m n : ℕ) (e : n ≡ 2 ^ k) where
 
 -- ---- nesting: the cells of a position at all levels
 
--- of what a frame holds, each point is held by one of its children at twice the scale
-record ChildHolds (Q t r : ℕ) (f : Frame) : Type 0 where
+-- of what a triangle holds, each point is held by one of its children at twice the scale
+record ChildHolds (Q t r : ℕ) (f : Triangle) : Type 0 where
   digit : ℕ
   below : digit < 4
   held : HoldsAt Q (2 * t) (2 * r) (child f digit)
@@ -306,12 +306,12 @@ child-down Q t r a b h false true w eu ev ew = record { digit = 2; below = omega
 child-down Q t r a b h false false true eu ev ew = record { digit = 0; below = omega arith; held = omega (arith, ltb-true, ltb-false) }
 child-down Q t r a b h false false false eu ev ew = record { digit = 3; below = omega arith; held = omega (arith, ltb-true, ltb-false) }
 
-child-holds : (Q t r : ℕ) (f : Frame) → HoldsAt Q t r f → ChildHolds Q t r f
+child-holds : (Q t r : ℕ) (f : Triangle) → HoldsAt Q t r f → ChildHolds Q t r f
 child-holds Q t r (up a b) h = child-up Q t r a b h _ _ _ refl refl refl
 child-holds Q t r (down a b) h = child-down Q t r a b h _ _ _ refl refl refl
 
--- a frame that is a child of another
-record ChildOf (f g : Frame) : Type 0 where
+-- a triangle that is a child of another
+record ChildOf (f g : Triangle) : Type 0 where
   digit : ℕ
   below : digit < 4
   same : g ≡ child f digit
@@ -335,22 +335,22 @@ pole-nested : (k : ℕ) → ChildOf (up (2 ^ k - 1) 0) (up (2 ^ suc k - 1) 0)
 unfolding child children
 pole-nested k = record { digit = 1; below = omega arith; same = ap₂ up (omega (arith, pow-suc 2 k, pow-pos k)) refl }
 
-frame-nested : (k p m : ℕ) → ChildOf (frameAt k p m) (frameAt (suc k) p m)
-frame-nested k p m = at-pole (eqb p q) refl
+triangle-nested : (k p m : ℕ) → ChildOf (triangleAt k p m) (triangleAt (suc k) p m)
+triangle-nested k p m = at-pole (eqb p q) refl
   where
-    at-pole : (b : Bool) → eqb p q ≡ b → ChildOf (frameAt k p m) (frameAt (suc k) p m)
-    at-pole true e = rw (eqb-true p q e, frame-pole k m, frame-pole (suc k) m) (pole-nested k)
-    at-pole false e = rw (frame-off k p m e, frame-off (suc k) p m e) (holder-nested k p m)
+    at-pole : (b : Bool) → eqb p q ≡ b → ChildOf (triangleAt k p m) (triangleAt (suc k) p m)
+    at-pole true e = rw (eqb-true p q e, triangle-pole k m, triangle-pole (suc k) m) (pole-nested k)
+    at-pole false e = rw (triangle-off k p m e, triangle-off (suc k) p m e) (holder-nested k p m)
 
 -- the place of a position at the next level is a child of its place at this one, at the poles too
 pub place-nested : (k : ℕ) (y x : ℤ) → Nested (placeAt k y x) (placeAt (suc k) y x)
 unfolding placeAt
 place-nested k y x =
-    let f = frame-nested k (natAbs y) (offset x) in
-    record { digit = f .digit; below = f .below; same = ap (λ (g : Frame). (octant y x, g)) (f .same) }
+    let f = triangle-nested k (natAbs y) (offset x) in
+    record { digit = f .digit; below = f .below; same = ap (λ (g : Triangle). (octant y x, g)) (f .same) }
 
 -- so its number there begins with the number here
-pub number-child : (k o d : ℕ) (f : Frame) → d < 4 → number (suc k) (o, child f d) ≡ 4 * number k (o, f) + d
+pub number-child : (k o d : ℕ) (f : Triangle) → d < 4 → number (suc k) (o, child f d) ≡ 4 * number k (o, f) + d
 unfolding number digits
 number-child k o d f h = rw (as-child-child f d h, pow-suc 4 k) (omega arith)
 

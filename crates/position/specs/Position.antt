@@ -9,7 +9,7 @@ use lib.IntN.{ℤ, pos, negsuc, natAbs, negℤ, _+ℤ_}
 use lib.ListN.{getD}
 use Rattle.refusal.specs.Answer.{Answer, given, refused, Test, _when_, inOrder}
 use Rattle.refusal.specs.Tests.{badLevel}
-use Rattle.cell.specs.Cell.{Frame, up, down, child, Place, number, maxLevel}
+use Rattle.cell.specs.Cell.{Triangle, up, down, child, Place, number, maxLevel}
 use Rattle.position.specs.declared.CellAnswer.{CellAnswer}
 use Rattle.position.specs.declared.CellAnswer.the-variants as cell-answer
 
@@ -55,27 +55,27 @@ scaledT k p = 2 ^ k * p * q
 unfoldable pub scaledR : ℕ → ℕ → ℕ → ℕ
 scaledR k p m = 2 ^ k * m * (q - p)
 
--- what a frame of level k holds of its octant; both sides of each inequality times q²
-unfoldable pub Holds : ℕ → ℕ → ℕ → Frame → Type 0
+-- what a triangle of level k holds of its octant; both sides of each inequality times q²
+unfoldable pub Holds : ℕ → ℕ → ℕ → Triangle → Type 0
 Holds k p m (up a b) =
     (a * (q * q) ≤ scaledT k p) × (b * (q * q) ≤ scaledR k p m) × (scaledT k p + scaledR k p m < (a + b + 1) * (q * q))
 Holds k p m (down a b) =
     (scaledT k p < (a + 1) * (q * q)) × (scaledR k p m < (b + 1) * (q * q)) × ((a + b + 1) * (q * q) ≤ scaledT k p + scaledR k p m)
 
--- the frame that holds a position below the pole: the whole parts of T and R are row and column, and what is left over of both tells up from down
-unfoldable pub holder : ℕ → ℕ → ℕ → Frame
+-- the triangle that holds a position below the pole: the whole parts of T and R are row and column, and what is left over of both tells up from down
+unfoldable pub holder : ℕ → ℕ → ℕ → Triangle
 holder k p m =
     let a = scaledT k p / (q * q) in
     let b = scaledR k p m / (q * q) in
     cond (ltb (scaledT k p % (q * q) + scaledR k p m % (q * q)) (q * q)) (up a b) (down a b)
 
 -- at p = q the cell is up(N−1,0)
-unfoldable pub frameAt : ℕ → ℕ → ℕ → Frame
-frameAt k p m = cond (eqb p q) (up (2 ^ k - 1) 0) (holder k p m)
+unfoldable pub triangleAt : ℕ → ℕ → ℕ → Triangle
+triangleAt k p m = cond (eqb p q) (up (2 ^ k - 1) 0) (holder k p m)
 
 -- the place of the cell at latitude y and longitude x
 unfoldable pub placeAt : ℕ → ℤ → ℤ → Place
-placeAt k y x = (octant y x, frameAt k (natAbs y) (offset x))
+placeAt k y x = (octant y x, triangleAt k (natAbs y) (offset x))
 
 -- 2: the latitude is outside its range; 3: the longitude is
 abbrev pub badLatitude : ℤ → Test

@@ -5,7 +5,7 @@ use cell::Place;
 ghost use mathlib.Core.Path.{_≡_};
 ghost use Prim.Native.Nat.{_*_, _/_, _%_, _^_, _<_, _≤_};
 ghost use Rattle.cell.specs.Cell.{placeOf, maxLevel};
-ghost use Rattle.position.specs.Position.{q, frameAt, holder};
+ghost use Rattle.position.specs.Position.{q, triangleAt, holder};
 
 // The square of a quarter of a turn, in whose units T and R are whole.
 const SQUARE: u64 = QUARTER * QUARTER;
@@ -66,7 +66,7 @@ fn holder_of(level: u32, octant: u32, p: u64, m: u64) -> Place
 // The place of a position of an octant: at the pole it is the octant's last row.
 pub(crate) fn place_at(level: u32, octant: u32, p: u64, m: u64) -> Place
     requires { ⌜ (level ≤ maxLevel) × (p ≤ q) × (m < q) ⌝ }
-    ensures { λ r. ⌜ placeOf r ≡ (octant, frameAt level p m) ⌝ }
+    ensures { λ r. ⌜ placeOf r ≡ (octant, triangleAt level p m) ⌝ }
 {
     if p == QUARTER {
         let row = (rows_of(level) - 1) as u32;

@@ -9,7 +9,7 @@ use Rattle.refusal.specs.Answer.{given, refused, done}
 use Rattle.refusal.proofs.Answers.{gives, given≢refused}
 use Rattle.refusal.proofs.Tests.{both, parts, length-passes}
 use Rattle.cell.specs.declared.Kind.{Kind}
-use Rattle.cell.specs.Cell.{frameOf}
+use Rattle.cell.specs.Cell.{triangleOf}
 use Rattle.mask.specs.Mask.{maxMaskLevel, maskTests, maskCall}
 use Rattle.mask.proofs.Answers.{is-mask}
 use Rattle.rows.specs.Rows.{lit}
@@ -34,5 +34,5 @@ refused-is k a n e = go (isMask k a) refl
     go false p = refl
 
 -- what is added to cleared rows is all that they hold
-pub all-added : (t : Kind) (k n : ℕ) (A : ℕ → Bool) (q r : List ℕ) → q ≡ replicate n 0 → Added (frameOf t) k A q r → (i : ℕ) → lit r i ≡ cellAt (frameOf t) k A i
-all-added t k n A q r e f i = f i ∙ ap (λ (b : Bool). b || cellAt (frameOf t) k A i) (ap (λ (l : List ℕ). lit l i) e ∙ lit-zeros n i)
+pub all-added : (t : Kind) (k n : ℕ) (A : ℕ → Bool) (q r : List ℕ) → q ≡ replicate n 0 → Added (triangleOf t) k A q r → (i : ℕ) → lit r i ≡ cellAt (triangleOf t) k A i
+all-added t k n A q r e f i = f i ∙ ap (λ (b : Bool). b || cellAt (triangleOf t) k A i) (ap (λ (l : List ℕ). lit l i) e ∙ lit-zeros n i)

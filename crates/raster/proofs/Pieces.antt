@@ -8,7 +8,7 @@ use native.Mathlib.Nat.{div-one, pow-suc}
 use borrow.Author.Tests.{lt-ltb, le-ltb, eq-eqb, ne-eqb, ltb-true, ltb-false, eqb-true, eqb-false}
 use lib.Dec.{ltb, eqb}
 use Rattle.cell.specs.declared.Kind.{Kind}
-use Rattle.cell.specs.Cell.{frameOf, cells}
+use Rattle.cell.specs.Cell.{triangleOf, cells}
 use Rattle.bitset.specs.Bits.{bit, marked}
 use Rattle.bitset.proofs.Laws.{bit-zero}
 use Rattle.rows.specs.Rows.{lit}
@@ -90,18 +90,18 @@ earlier-more size n A c = more-test (c / size) n (A c)
 -- ---- rows
 
 -- nothing more is set
-pub added-none : (t : Kind) (k : ℕ) (A : ℕ → Bool) (s : List ℕ) → ((c : ℕ) → c < cells k → A c ≡ false) → Added (frameOf t) k A s s
+pub added-none : (t : Kind) (k : ℕ) (A : ℕ → Bool) (s : List ℕ) → ((c : ℕ) → c < cells k → A c ≡ false) → Added (triangleOf t) k A s s
 added-none t k A s f i = sym (ap (λ (b : Bool). lit s i || b) (at-cong k t A (λ c. false) i f ∙ none-at k t i) ∙ or-false (lit s i))
 
-pub added-same : (t : Kind) (k : ℕ) (A B : ℕ → Bool) (s r : List ℕ) → ((c : ℕ) → c < cells k → A c ≡ B c) → Added (frameOf t) k A s r → Added (frameOf t) k B s r
+pub added-same : (t : Kind) (k : ℕ) (A B : ℕ → Bool) (s r : List ℕ) → ((c : ℕ) → c < cells k → A c ≡ B c) → Added (triangleOf t) k A s r → Added (triangleOf t) k B s r
 added-same t k A B s r f g i = g i ∙ ap (λ (b : Bool). lit s i || b) (at-cong k t A B i f)
 
 -- one set after another
 pub added-more : (t : Kind) (k size n : ℕ) (A : ℕ → Bool) (s r q : List ℕ) →
-    Added (frameOf t) k (earlier size n A) s r → Added (frameOf t) k (piece size n A) r q → Added (frameOf t) k (earlier size (n + 1) A) s q
+    Added (triangleOf t) k (earlier size n A) s r → Added (triangleOf t) k (piece size n A) r q → Added (triangleOf t) k (earlier size (n + 1) A) s q
 added-more t k size n A s r q f g i =
-    g i ∙ ap (λ (b : Bool). b || cellAt (frameOf t) k (piece size n A) i) (f i)
-    ∙ or-assoc (lit s i) (cellAt (frameOf t) k (earlier size n A) i) (cellAt (frameOf t) k (piece size n A) i)
+    g i ∙ ap (λ (b : Bool). b || cellAt (triangleOf t) k (piece size n A) i) (f i)
+    ∙ or-assoc (lit s i) (cellAt (triangleOf t) k (earlier size n A) i) (cellAt (triangleOf t) k (piece size n A) i)
     ∙ ap (λ (b : Bool). lit s i || b) (sym (at-union k t (earlier size n A) (piece size n A) i)
     ∙ at-cong k t (λ c. earlier size n A c || piece size n A c) (earlier size (n + 1) A) i (λ c h. earlier-more size n A c))
 

@@ -14,48 +14,48 @@ use Rattle.bitset.specs.Bits.{bit}
 use Rattle.bitset.proofs.Laws.{bit-zero, bit-or}
 use Rattle.cell.specs.declared.Kind.{Kind}
 use Rattle.cell.specs.declared.Kind.the-variants.{Up, Down}
-use Rattle.cell.specs.Cell.{Frame, up, down, row, col, child, children, frameOf, Place, place, cells}
-use Rattle.cell.proofs.Laws.{digit-cases, child-number, frame-bounds}
+use Rattle.cell.specs.Cell.{Triangle, up, down, row, col, child, children, triangleOf, Place, place, cells}
+use Rattle.cell.proofs.Laws.{digit-cases, child-number, triangle-bounds}
 use Rattle.cell.proofs.Answers.{Given}
 use Rattle.mask.specs.Reach.{allBelow}
 use Rattle.mask.proofs.Reach.{any-in, any-out, all-at}
 use Rattle.rows.specs.Rows.{lit, spot, octantAt, rowAt, colAt}
-use Rattle.raster.specs.Raster.{cellAt, frameLit, cellLit}
+use Rattle.raster.specs.Raster.{cellAt, triangleLit, cellLit}
 use Rattle.raster.specs.inside.Pieces.{piece, Added}
 use Rattle.raster.specs.inside.Squares.{inSquare, quarterOf, seat, kindOf, squares, seatBit, Spread}
-use Rattle.raster.proofs.Held.{at-cell, found, frame-same, kind-same}
+use Rattle.raster.proofs.Held.{at-cell, found, triangle-same, kind-same}
 
--- ---- frames moved
+-- ---- triangles moved
 
--- a frame moved by rows and columns
-abbrev moved : Frame → ℕ → ℕ → Frame
-moved f a b = frameOf (kindOf f) (a + row f) (b + col f)
+-- a triangle moved by rows and columns
+abbrev moved : Triangle → ℕ → ℕ → Triangle
+moved f a b = triangleOf (kindOf f) (a + row f) (b + col f)
 
 -- its children are moved by twice as many
-child-moved : (f : Frame) (a b d : ℕ) → d < 4 → child (moved f a b) d ≡ moved (child f d) (2 * a) (2 * b)
+child-moved : (f : Triangle) (a b d : ℕ) → d < 4 → child (moved f a b) d ≡ moved (child f d) (2 * a) (2 * b)
 unfolding child children row col kindOf
 child-moved (up x y) a b = digit-cases _ (ap₂ down (omega arith) (omega arith)) (ap₂ up (omega arith) (omega arith)) (ap₂ up (omega arith) (omega arith)) (ap₂ up (omega arith) (omega arith))
 child-moved (down x y) a b = digit-cases _ (ap₂ up (omega arith) (omega arith)) (ap₂ down (omega arith) (omega arith)) (ap₂ down (omega arith) (omega arith)) (ap₂ down (omega arith) (omega arith))
 
-frame-moved : (t : Kind) (a b : ℕ) → frameOf t a b ≡ moved (frameOf t 0 0) a b
+triangle-moved : (t : Kind) (a b : ℕ) → triangleOf t a b ≡ moved (triangleOf t 0 0) a b
 unfolding row col kindOf
-frame-moved Up a b = ap₂ up (omega arith) (omega arith)
-frame-moved Down a b = ap₂ down (omega arith) (omega arith)
+triangle-moved Up a b = ap₂ up (omega arith) (omega arith)
+triangle-moved Down a b = ap₂ down (omega arith) (omega arith)
 
-moved-frame : (s : Kind) (x y a b : ℕ) → moved (frameOf s x y) a b ≡ frameOf s (a + x) (b + y)
+moved-triangle : (s : Kind) (x y a b : ℕ) → moved (triangleOf s x y) a b ≡ triangleOf s (a + x) (b + y)
 unfolding row col kindOf
-moved-frame Up x y a b = refl
-moved-frame Down x y a b = refl
+moved-triangle Up x y a b = refl
+moved-triangle Down x y a b = refl
 
-seat-moved : (t : Kind) (a b j : ℕ) → j < 64 → child (child (child (frameOf t a b) (j / 16)) (j / 4 % 4)) (j % 4) ≡ moved (seat t j) (8 * a) (8 * b)
+seat-moved : (t : Kind) (a b j : ℕ) → j < 64 → child (child (child (triangleOf t a b) (j / 16)) (j / 4 % 4)) (j % 4) ≡ moved (seat t j) (8 * a) (8 * b)
 unfolding seat
 seat-moved t a b j h =
-    let f = frameOf t 0 0 in
+    let f = triangleOf t 0 0 in
     let g = child f (j / 16) in
     let k = child g (j / 4 % 4) in
-    ap (λ (x : Frame). child (child (child x (j / 16)) (j / 4 % 4)) (j % 4)) (frame-moved t a b)
-    ∙ ap (λ (x : Frame). child (child x (j / 4 % 4)) (j % 4)) (child-moved f a b (j / 16) (omega arith))
-    ∙ ap (λ (x : Frame). child x (j % 4)) (child-moved g (2 * a) (2 * b) (j / 4 % 4) (omega arith))
+    ap (λ (x : Triangle). child (child (child x (j / 16)) (j / 4 % 4)) (j % 4)) (triangle-moved t a b)
+    ∙ ap (λ (x : Triangle). child (child x (j / 4 % 4)) (j % 4)) (child-moved f a b (j / 16) (omega arith))
+    ∙ ap (λ (x : Triangle). child x (j % 4)) (child-moved g (2 * a) (2 * b) (j / 4 % 4) (omega arith))
     ∙ child-moved k (2 * (2 * a)) (2 * (2 * b)) (j % 4) (omega arith)
     ∙ ap₂ (moved (child k (j % 4))) (omega arith) (omega arith)
 
@@ -70,10 +70,10 @@ seat-small t j h =
     let p = parts (ltb (row (seat t j)) 8) (ltb (col (seat t j)) 8) (all-at 64 (λ j. ltb (row (seat t j)) 8 && ltb (col (seat t j)) 8) (seats-computed t) j h) in
     (ltb-true (row (seat t j)) 8 (p .0), ltb-true (col (seat t j)) 8 (p .1))
 
-seat-frame : (t s : Kind) (j x y : ℕ) → seat t j ≡ frameOf s x y → (kindOf (seat t j) ≡ s) × (row (seat t j) ≡ x) × (col (seat t j) ≡ y)
+seat-triangle : (t s : Kind) (j x y : ℕ) → seat t j ≡ triangleOf s x y → (kindOf (seat t j) ≡ s) × (row (seat t j) ≡ x) × (col (seat t j) ≡ y)
 unfolding row col kindOf
-seat-frame t Up j x y e = (ap kindOf e, ap row e, ap col e)
-seat-frame t Down j x y e = (ap kindOf e, ap row e, ap col e)
+seat-triangle t Up j x y e = (ap kindOf e, ap row e, ap col e)
+seat-triangle t Down j x y e = (ap kindOf e, ap row e, ap col e)
 
 -- what holds of up and of down
 pub kind-cases : (P : Kind → Type 0) → P Up → P Down → (s : Kind) → P s
@@ -90,27 +90,27 @@ abbrev pub squareOf : ℕ → ℕ → Kind → ℕ
 squareOf x y Up = x
 squareOf x y Down = y
 
-frame-lit : (u d : List ℕ) (o : ℕ) (s : Kind) (a b : ℕ) → frameLit u d o (frameOf s a b) ≡ lit (rowsOf u d s) (spot o a b)
-unfolding frameLit
-frame-lit u d o Up a b = refl
-frame-lit u d o Down a b = refl
+triangle-lit : (u d : List ℕ) (o : ℕ) (s : Kind) (a b : ℕ) → triangleLit u d o (triangleOf s a b) ≡ lit (rowsOf u d s) (spot o a b)
+unfolding triangleLit
+triangle-lit u d o Up a b = refl
+triangle-lit u d o Down a b = refl
 
 -- ---- a block
 
-module _ (k m B o : ℕ) (t : Kind) (a b : ℕ) (h : k ≤ 8) (e : k ≡ suc (suc (suc m))) (g : Given m B (o, frameOf t a b)) where
+module _ (k m B o : ℕ) (t : Kind) (a b : ℕ) (h : k ≤ 8) (e : k ≡ suc (suc (suc m))) (g : Given m B (o, triangleOf t a b)) where
   -- where cell j of the block lies
   pub block-place : (j : ℕ) → j < 64 → place k (64 * B + j) ≡ (o, moved (seat t j) (8 * a) (8 * b))
   block-place j l =
       let c₁ = 4 * B + j / 16 in
       let c₂ = 4 * c₁ + j / 4 % 4 in
       let n : 64 * B + j ≡ 4 * c₂ + j % 4 = omega arith in
-      let p₁ : place (suc m) c₁ ≡ (o, child (frameOf t a b) (j / 16)) =
+      let p₁ : place (suc m) c₁ ≡ (o, child (triangleOf t a b) (j / 16)) =
       child-number m B (j / 16) (omega arith) ∙ ap (λ (q : Place). (q .0, child (q .1) (j / 16))) (g .at) in
-      let p₂ : place (suc (suc m)) c₂ ≡ (o, child (child (frameOf t a b) (j / 16)) (j / 4 % 4)) =
+      let p₂ : place (suc (suc m)) c₂ ≡ (o, child (child (triangleOf t a b) (j / 16)) (j / 4 % 4)) =
       child-number (suc m) c₁ (j / 4 % 4) (omega arith) ∙ ap (λ (q : Place). (q .0, child (q .1) (j / 4 % 4))) p₁ in
       ap₂ place e n
       ∙ child-number (suc (suc m)) c₂ (j % 4) (omega arith) ∙ ap (λ (q : Place). (q .0, child (q .1) (j % 4))) p₂
-      ∙ ap (λ (f : Frame). (o, f)) (seat-moved t a b j l)
+      ∙ ap (λ (f : Triangle). (o, f)) (seat-moved t a b j l)
 
   pub block-below : (j : ℕ) → j < 64 → 64 * B + j < cells k
   block-below j l =
@@ -121,15 +121,15 @@ module _ (k m B o : ℕ) (t : Kind) (a b : ℕ) (h : k ≤ 8) (e : k ≡ suc (su
   pub block-small : (o < 8) × (a < 32) × (b < 32)
   block-small =
       let p : 2 ^ m ≤ 2 ^ 5 = pow-mono {i = m} {j = 5} (omega arith) in
-      let w = frame-bounds t a b (2 ^ m) (g .occurs .1) in
+      let w = triangle-bounds t a b (2 ^ m) (g .occurs .1) in
       (g .occurs .0, omega arith, omega arith)
 
   module _ (slot : ℕ) (es : slot ≡ (258 * o + 8 * a + 2) * 40 + b) where
     -- a square's bits are the block's cells of a kind
     pub square-is : (v : ℕ) (sq : Kind → Kind → ℕ) → Spread v sq → (s : Kind) (r : ℕ) → ((p : ℕ) → p < 64 → bit r p ≡ bit (sq t s) (quarterOf p)) →
-        (i : ℕ) → inSquare 8 slot r i ≡ cellAt (frameOf s) k (piece 64 B (λ c. bit v (c % 64))) i
+        (i : ℕ) → inSquare 8 slot r i ≡ cellAt (triangleOf s) k (piece 64 B (λ c. bit v (c % 64))) i
     unfolding inSquare piece seatBit
-    square-is v sq w s r f i = same-test (inSquare 8 slot r i) (cellAt (frameOf s) k A i) there back
+    square-is v sq w s r f i = same-test (inSquare 8 slot r i) (cellAt (triangleOf s) k A i) there back
       where
         A : ℕ → Bool
         A c = eqb (c / 64) B && bit v (c % 64)
@@ -144,7 +144,7 @@ module _ (k m B o : ℕ) (t : Kind) (a b : ℕ) (h : k ≤ 8) (e : k ≡ suc (su
             ∙ sym (ap₂ (λ (u : Kind) (p : ℕ). bit (sq t u) (quarterOf p)) ek (ap₂ (λ (c d : ℕ). 8 * c + d) ex ey))
             ∙ w .at t j l
 
-        there : inSquare 8 slot r i ≡ true → cellAt (frameOf s) k A i ≡ true
+        there : inSquare 8 slot r i ≡ true → cellAt (triangleOf s) k A i ≡ true
         there q =
             let z = any-out 8 P q in
             let x = z .0 in
@@ -156,18 +156,18 @@ module _ (k m B o : ℕ) (t : Kind) (a b : ℕ) (h : k ≤ 8) (e : k ≡ suc (su
             let j = u .0 in
             let qx : (8 * x + y) / 8 ≡ x = omega arith in
             let qy : (8 * x + y) % 8 ≡ y = omega arith in
-            let sf : seat t j ≡ frameOf s x y = u .2 ∙ ap₂ (frameOf s) qx qy in
-            let d = seat-frame t s j x y sf in
-            let at : place k (64 * B + j) ≡ (o, frameOf s (8 * a + x) (8 * b + y)) =
-            block-place j (u .1) ∙ ap (λ (f : Frame). (o, moved f (8 * a) (8 * b))) sf ∙ ap (λ (f : Frame). (o, f)) (moved-frame s x y (8 * a) (8 * b)) in
+            let sf : seat t j ≡ triangleOf s x y = u .2 ∙ ap₂ (triangleOf s) qx qy in
+            let d = seat-triangle t s j x y sf in
+            let at : place k (64 * B + j) ≡ (o, triangleOf s (8 * a + x) (8 * b + y)) =
+            block-place j (u .1) ∙ ap (λ (f : Triangle). (o, moved f (8 * a) (8 * b))) sf ∙ ap (λ (f : Triangle). (o, f)) (moved-triangle s x y (8 * a) (8 * b)) in
             let here : spot o (8 * a + x) (8 * b + y) ≡ i = omega arith in
             let nb : (64 * B + j) / 64 ≡ B = omega (arith, u .1) in
             let nj : (64 * B + j) % 64 ≡ j = omega (arith, u .1) in
             let in-it : A (64 * B + j) ≡ true = both (eqb ((64 * B + j) / 64) B) (bit v ((64 * B + j) % 64)) (eq-eqb _ _ nb)
             (ap (bit v) nj ∙ sym (seated j x y (u .1) (z .1) (omega arith) (d .0) (d .1) (d .2)) ∙ c .1) in
-            ap (cellAt (frameOf s) k A) (sym here) ∙ at-cell k s A (64 * B + j) o (8 * a + x) (8 * b + y) h (block-below j (u .1)) at ∙ in-it
+            ap (cellAt (triangleOf s) k A) (sym here) ∙ at-cell k s A (64 * B + j) o (8 * a + x) (8 * b + y) h (block-below j (u .1)) at ∙ in-it
 
-        back : cellAt (frameOf s) k A i ≡ true → inSquare 8 slot r i ≡ true
+        back : cellAt (triangleOf s) k A i ≡ true → inSquare 8 slot r i ≡ true
         back q =
             let z = found k s A i q in
             let c = parts (eqb (z .cell / 64) B) (bit v (z .cell % 64)) (z .member) in
@@ -177,9 +177,9 @@ module _ (k m B o : ℕ) (t : Kind) (a b : ℕ) (h : k ≤ 8) (e : k ≡ suc (su
             let x = row (seat t j) in
             let y = col (seat t j) in
             let d = seat-small t j l in
-            let p : _≡_ {A = Place} (o, moved (seat t j) (8 * a) (8 * b)) (octantAt i, frameOf s (rowAt i) (colAt i)) = sym (block-place j l) ∙ ap (place k) n ∙ z .at in
+            let p : _≡_ {A = Place} (o, moved (seat t j) (8 * a) (8 * b)) (octantAt i, triangleOf s (rowAt i) (colAt i)) = sym (block-place j l) ∙ ap (place k) n ∙ z .at in
             let eo : o ≡ octantAt i = ap (λ (r : Place). r .0) p in
-            let f = frame-same s (kindOf (seat t j)) (8 * a + x) (8 * b + y) (rowAt i) (colAt i) (ap (λ (r : Place). r .1) p) in
+            let f = triangle-same s (kindOf (seat t j)) (8 * a + x) (8 * b + y) (rowAt i) (colAt i) (ap (λ (r : Place). r .1) p) in
             let here : i ≡ spot o (8 * a + x) (8 * b + y) = omega (arith, z .again, f .1, f .2) in
             let ei : i / 8 ≡ slot + 40 * x = omega arith in
             let ey : i % 8 ≡ y = omega arith in
@@ -188,7 +188,7 @@ module _ (k m B o : ℕ) (t : Kind) (a b : ℕ) (h : k ≤ 8) (e : k ≡ suc (su
 
     -- so what is joined of it is added
     pub square-added : (v : ℕ) (sq : Kind → Kind → ℕ) → Spread v sq → (s : Kind) (r : ℕ) → ((p : ℕ) → p < 64 → bit r p ≡ bit (sq t s) (quarterOf p)) →
-        (q z : List ℕ) → ((i : ℕ) → lit z i ≡ (lit q i || inSquare 8 slot r i)) → Added (frameOf s) k (piece 64 B (λ c. bit v (c % 64))) q z
+        (q z : List ℕ) → ((i : ℕ) → lit z i ≡ (lit q i || inSquare 8 slot r i)) → Added (triangleOf s) k (piece 64 B (λ c. bit v (c % 64))) q z
     square-added v sq w s r f q z d i = d i ∙ ap (λ (x : Bool). lit q i || x) (square-is v sq w s r f i)
 
     -- a cell's seat read in the rows of its kind, from squares x and y of the two
@@ -206,7 +206,7 @@ module _ (k m B o : ℕ) (t : Kind) (a b : ℕ) (h : k ≤ 8) (e : k ≡ suc (su
         let here : 8 * (slot + 40 * ((8 * r + c) / 8)) + (8 * r + c) % 8 ≡ spot o (8 * a + r) (8 * b + c) = omega arith in
         let h : 8 * r + c < 64 = omega arith in
         q s (8 * r + c) h ∙ read s (8 * r + c) h ∙ ap (lit (rowsOf u d s)) here
-        ∙ sym (ap (λ (p : Place). frameLit u d (p .0) (p .1)) (block-place j l) ∙ frame-lit u d o s (8 * a + r) (8 * b + c))
+        ∙ sym (ap (λ (p : Place). triangleLit u d (p .0) (p .1)) (block-place j l) ∙ triangle-lit u d o s (8 * a + r) (8 * b + c))
 
 -- two squares in which nothing is set
 pub both-empty : (x y : ℕ) → bitOr x y ≡ 0 → (s : Kind) (p : ℕ) → p < 64 → bit 0 (quarterOf p) ≡ bit (squareOf x y s) p

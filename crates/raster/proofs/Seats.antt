@@ -11,7 +11,7 @@ use Rattle.refusal.proofs.Tests.{parts, clash}
 use Rattle.bitset.specs.Bits.{bit}
 use Rattle.cell.specs.declared.Kind.{Kind}
 use Rattle.cell.specs.declared.Kind.the-variants.{Up, Down}
-use Rattle.cell.specs.Cell.{Frame, up, down, row, col, child, children, frameOf}
+use Rattle.cell.specs.Cell.{Triangle, up, down, row, col, child, children, triangleOf}
 use Rattle.mask.specs.Reach.{allBelow}
 use Rattle.mask.proofs.Reach.{all-at}
 use Rattle.raster.specs.inside.Squares.{quarterOf, seat, kindOf, squares, seatBit, Spread, Gathered}
@@ -79,19 +79,19 @@ quarters-bits x h p l = one-bit x h quartersWord (quarterOf p) p l (all-at 64 (�
 
 -- ---- a block's cells
 
--- two frames are the same
-unfoldable sameFrame : Frame → Frame → Bool
-sameFrame (up a b) (up c d) = eqb a c && eqb b d
-sameFrame (up a b) (down c d) = false
-sameFrame (down a b) (up c d) = false
-sameFrame (down a b) (down c d) = eqb a c && eqb b d
+-- two triangles are the same
+unfoldable sameTriangle : Triangle → Triangle → Bool
+sameTriangle (up a b) (up c d) = eqb a c && eqb b d
+sameTriangle (up a b) (down c d) = false
+sameTriangle (down a b) (up c d) = false
+sameTriangle (down a b) (down c d) = eqb a c && eqb b d
 
-same-frame : (f g : Frame) → sameFrame f g ≡ true → f ≡ g
-unfolding sameFrame
-same-frame (up a b) (up c d) e = let p = parts (eqb a c) (eqb b d) e in ap₂ up (eqb-true a c (p .0)) (eqb-true b d (p .1))
-same-frame (up a b) (down c d) e = clash e refl
-same-frame (down a b) (up c d) e = clash e refl
-same-frame (down a b) (down c d) e = let p = parts (eqb a c) (eqb b d) e in ap₂ down (eqb-true a c (p .0)) (eqb-true b d (p .1))
+same-triangle : (f g : Triangle) → sameTriangle f g ≡ true → f ≡ g
+unfolding sameTriangle
+same-triangle (up a b) (up c d) e = let p = parts (eqb a c) (eqb b d) e in ap₂ up (eqb-true a c (p .0)) (eqb-true b d (p .1))
+same-triangle (up a b) (down c d) e = clash e refl
+same-triangle (down a b) (up c d) e = clash e refl
+same-triangle (down a b) (down c d) e = let p = parts (eqb a c) (eqb b d) e in ap₂ down (eqb-true a c (p .0)) (eqb-true b d (p .1))
 
 -- where a seat's bit stands in quarters
 abbrev seatAt : Kind → ℕ → ℕ
@@ -127,7 +127,7 @@ abbrev atTest : Kind → ℕ → Bool
 atTest t j = sameList (sources (spreadWord t (kindOf (seat t j))) (seatAt t j)) (j ∷ [])
 
 abbrev onlyTest : Kind → Kind → ℕ → Bool
-onlyTest t s p = atMostOne (λ j. ltb j 64 && sameFrame (seat t j) (frameOf s (p / 8) (p % 8))) (sources (spreadWord t s) (quarterOf p))
+onlyTest t s p = atMostOne (λ j. ltb j 64 && sameTriangle (seat t j) (triangleOf s (p / 8) (p % 8))) (sources (spreadWord t s) (quarterOf p))
 
 at-computed : (t : Kind) → allBelow 64 (atTest t) ≡ true
 unfolding allBelow sameList sources quarterOf bit seat kindOf row col child children
@@ -135,7 +135,7 @@ at-computed Up = refl
 at-computed Down = refl
 
 only-computed : (t s : Kind) → allBelow 64 (onlyTest t s) ≡ true
-unfolding allBelow atMostOne sameFrame sources quarterOf bit seat kindOf row col child children
+unfolding allBelow atMostOne sameTriangle sources quarterOf bit seat kindOf row col child children
 only-computed Up Up = refl
 only-computed Up Down = refl
 only-computed Down Up = refl
@@ -162,12 +162,12 @@ spread-bits x h = record {
       ∙ one-bit x h (spreadWord t (kindOf (seat t j))) (seatAt t j) j l (all-at 64 (atTest t) (at-computed t) j l);
   only = λ t s p l e.
       let w = spreadWord t s in
-      let g : ℕ → Bool = λ j. ltb j 64 && sameFrame (seat t j) (frameOf s (p / 8) (p % 8)) in
+      let g : ℕ → Bool = λ j. ltb j 64 && sameTriangle (seat t j) (triangleOf s (p / 8) (p % 8)) in
       let f = inputBit (λ n. x) in
       let set = sym (value-bit (λ n. x) (λ n. h) w (quarterOf p)) ∙ ap (λ (w : ℕ). bit w (quarterOf p)) (sym (spread-is x t s)) ∙ e in
       let o = at-most-one f g (sources w (quarterOf p)) (all-at 64 (onlyTest t s) (only-computed t s) p l) set in
-      let q = parts (ltb (o .0) 64) (sameFrame (seat t (o .0)) (frameOf s (p / 8) (p % 8))) (o .1) in
-      (o .0, ltb-true (o .0) 64 (q .0), same-frame (seat t (o .0)) (frameOf s (p / 8) (p % 8)) (q .1));
+      let q = parts (ltb (o .0) 64) (sameTriangle (seat t (o .0)) (triangleOf s (p / 8) (p % 8))) (o .1) in
+      (o .0, ltb-true (o .0) 64 (q .0), same-triangle (seat t (o .0)) (triangleOf s (p / 8) (p % 8)) (q .1));
 }
 
 -- ---- and back

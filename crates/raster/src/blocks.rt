@@ -2,7 +2,7 @@
 ghost use mathlib.Core.Path.{_≡_};
 ghost use Prim.Native.Nat.{ℕ, _+_, _*_, _-_, _%_, _≤_, _<_};
 ghost use Rattle.bitset.specs.Bits.{bit};
-ghost use Rattle.cell.specs.Cell.{Frame, cells};
+ghost use Rattle.cell.specs.Cell.{Triangle, cells};
 ghost use Rattle.mask.specs.Mask.{maxMaskLevel};
 ghost use Rattle.raster.specs.Raster.{cellLit};
 ghost use Rattle.raster.specs.inside.Pieces.{piece, Added};
@@ -29,8 +29,8 @@ pub(crate) fn put_block(
     down: &mut [u64; 10330],
 )
     requires { ⌜ (3 ≤ level) × (level ≤ maxMaskLevel) × (block < cells (level - 3)) ⌝ }
-    ensures ups { λ _. ⌜ Added Frame.up level (piece 64 block (λ c. bit word (c % 64))) (now (up .entry)) (now (up .exit)) ⌝ }
-    ensures downs { λ _. ⌜ Added Frame.down level (piece 64 block (λ c. bit word (c % 64))) (now (down .entry)) (now (down .exit)) ⌝ }
+    ensures ups { λ _. ⌜ Added Triangle.up level (piece 64 block (λ c. bit word (c % 64))) (now (up .entry)) (now (up .exit)) ⌝ }
+    ensures downs { λ _. ⌜ Added Triangle.down level (piece 64 block (λ c. bit word (c % 64))) (now (down .entry)) (now (down .exit)) ⌝ }
 {
     match cell::place_of(level - 3, block) {
         PlaceAnswer::At(place) => {

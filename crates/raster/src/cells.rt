@@ -4,7 +4,7 @@ ghost use Prim.Native.Nat.{_^_, _≤_, _<_};
 ghost use lib.Dec.{eqb};
 ghost use lib.ListN.{length};
 ghost use Rattle.bitset.specs.Bits.{marked};
-ghost use Rattle.cell.specs.Cell.{Frame, cells};
+ghost use Rattle.cell.specs.Cell.{Triangle, cells};
 ghost use Rattle.mask.specs.Mask.{maxMaskLevel};
 ghost use Rattle.rows.specs.Rows.{spot};
 ghost use Rattle.raster.specs.Raster.{cellLit};
@@ -25,8 +25,8 @@ fn spot_of(octant: u32, row: u32, col: u32) -> u32
 // Sets a cell's spot, in the rows of its kind.
 pub(crate) fn put_cell(level: u32, cell: CellNumber, up: &mut [u64; 10330], down: &mut [u64; 10330])
     requires { ⌜ (level ≤ maxMaskLevel) × (cell < cells level) ⌝ }
-    ensures ups { λ _. ⌜ Added Frame.up level (eqb cell) (now (up .entry)) (now (up .exit)) ⌝ }
-    ensures downs { λ _. ⌜ Added Frame.down level (eqb cell) (now (down .entry)) (now (down .exit)) ⌝ }
+    ensures ups { λ _. ⌜ Added Triangle.up level (eqb cell) (now (up .entry)) (now (up .exit)) ⌝ }
+    ensures downs { λ _. ⌜ Added Triangle.down level (eqb cell) (now (down .entry)) (now (down .exit)) ⌝ }
 {
     match cell::place_of(level, cell) {
         PlaceAnswer::At(place) => {
@@ -73,8 +73,8 @@ pub(crate) fn put_marked(
     down: &mut [u64; 10330],
 )
     requires { ⌜ (level ≤ maxMaskLevel) × (cell < cells level) ⌝ }
-    ensures ups { λ _. ⌜ Added Frame.up level (piece 1 cell (marked (now (mask .entry)))) (now (up .entry)) (now (up .exit)) ⌝ }
-    ensures downs { λ _. ⌜ Added Frame.down level (piece 1 cell (marked (now (mask .entry)))) (now (down .entry)) (now (down .exit)) ⌝ }
+    ensures ups { λ _. ⌜ Added Triangle.up level (piece 1 cell (marked (now (mask .entry)))) (now (up .entry)) (now (up .exit)) ⌝ }
+    ensures downs { λ _. ⌜ Added Triangle.down level (piece 1 cell (marked (now (mask .entry)))) (now (down .entry)) (now (down .exit)) ⌝ }
 {
     if bitset::is_marked(mask, cell) {
         put_cell(level, cell, up, down);

@@ -4,7 +4,7 @@ ghost use mathlib.Core.Bool.{false, cond};
 ghost use Prim.Native.Nat.{ℕ, _/_, _^_, _≤_, _<_};
 ghost use lib.ListN.{length};
 ghost use Rattle.bitset.specs.Bits.{marked, bytesOf};
-ghost use Rattle.cell.specs.Cell.{Frame};
+ghost use Rattle.cell.specs.Cell.{Triangle};
 ghost use Rattle.mask.specs.Mask.{maxMaskLevel};
 ghost use Rattle.rows.specs.Rows.{lit};
 ghost use Rattle.raster.specs.Raster.{isMask, cellAt, cellLit};
@@ -32,8 +32,8 @@ fn piece_count(level: u32) -> u32
 // Sets the spots of the marked cells of one piece.
 fn put_piece(level: u32, n: u32, mask: &[u8], up: &mut [u64; 10330], down: &mut [u64; 10330])
     requires { ⌜ (level ≤ maxMaskLevel) × (n < pieceCount level) × (length (now mask) ≡ 4 ^ level) ⌝ }
-    ensures ups { λ _. ⌜ Added Frame.up level (piece (pieceSize level) n (marked (now (mask .entry)))) (now (up .entry)) (now (up .exit)) ⌝ }
-    ensures downs { λ _. ⌜ Added Frame.down level (piece (pieceSize level) n (marked (now (mask .entry)))) (now (down .entry)) (now (down .exit)) ⌝ }
+    ensures ups { λ _. ⌜ Added Triangle.up level (piece (pieceSize level) n (marked (now (mask .entry)))) (now (up .entry)) (now (up .exit)) ⌝ }
+    ensures downs { λ _. ⌜ Added Triangle.down level (piece (pieceSize level) n (marked (now (mask .entry)))) (now (down .entry)) (now (down .exit)) ⌝ }
 {
     if level < 3 {
         cells::put_marked(level, n, mask, up, down);
@@ -48,8 +48,8 @@ fn put_piece(level: u32, n: u32, mask: &[u8], up: &mut [u64; 10330], down: &mut 
 // Sets the spots of all marked cells.
 fn put_pieces(level: u32, mask: &[u8], up: &mut [u64; 10330], down: &mut [u64; 10330])
     requires { ⌜ (level ≤ maxMaskLevel) × (length (now mask) ≡ 4 ^ level) ⌝ }
-    ensures ups { λ _. ⌜ Added Frame.up level (marked (now (mask .entry))) (now (up .entry)) (now (up .exit)) ⌝ }
-    ensures downs { λ _. ⌜ Added Frame.down level (marked (now (mask .entry))) (now (down .entry)) (now (down .exit)) ⌝ }
+    ensures ups { λ _. ⌜ Added Triangle.up level (marked (now (mask .entry))) (now (up .entry)) (now (up .exit)) ⌝ }
+    ensures downs { λ _. ⌜ Added Triangle.down level (marked (now (mask .entry))) (now (down .entry)) (now (down .exit)) ⌝ }
 {
     let count = piece_count(level);
     let mut n = 0;
@@ -62,9 +62,9 @@ fn put_pieces(level: u32, mask: &[u8], up: &mut [u64; 10330], down: &mut [u64; 1
 // The cells that a mask of the level marks, each at its spot in the rows of its kind. Where the slice is no mask of the level, nothing is written.
 pub fn to_rows(level: u32, mask: &[u8], up: &mut [u64; 10330], down: &mut [u64; 10330])
     ensures ups { λ _. ⌜ ((i : ℕ) → lit (now (up .exit)) i
-        ≡ cond (isMask level (now (mask .entry))) (cellAt Frame.up level (marked (now (mask .entry))) i) (lit (now (up .entry)) i)) ⌝ }
+        ≡ cond (isMask level (now (mask .entry))) (cellAt Triangle.up level (marked (now (mask .entry))) i) (lit (now (up .entry)) i)) ⌝ }
     ensures downs { λ _. ⌜ ((i : ℕ) → lit (now (down .exit)) i
-        ≡ cond (isMask level (now (mask .entry))) (cellAt Frame.down level (marked (now (mask .entry))) i) (lit (now (down .entry)) i)) ⌝ }
+        ≡ cond (isMask level (now (mask .entry))) (cellAt Triangle.down level (marked (now (mask .entry))) i) (lit (now (down .entry)) i)) ⌝ }
 {
     match mask::is_mask(level, mask) {
         MaskAnswer::Fits => {

@@ -1,4 +1,4 @@
--- Spots beside each other: two corners of one frame are, and two points of a level that are have a frame of it in common. Assumes nothing.
+-- Spots beside each other: two corners of one triangle are, and two points of a level that are have a triangle of it in common. Assumes nothing.
 use Prim.Native.Nat.{ℕ, _+_, _-_, _≤_, _<_}
 use mathlib.Core.Path.{_≡_, refl, sym, subst}
 use mathlib.Core.Bool.{Bool, true, false, _||_}
@@ -7,7 +7,7 @@ use borrow.Author.Tests.{ltb-true, ltb-false}
 use lib.Dec.{ltb}
 use native.Mathlib.Omega.{arith}
 use Rattle.refusal.proofs.Tests.{left, right, cases}
-use Rattle.cell.specs.Cell.{Frame, up, down, span}
+use Rattle.cell.specs.Cell.{Triangle, up, down, span}
 use Rattle.rows.specs.Rows.{spot}
 use Rattle.rows.proofs.Spots.{spot-same}
 use Rattle.stencil.specs.Stencil.{nearOf}
@@ -61,8 +61,8 @@ module _ (P : ℕ → Bool) (i : ℕ) where
       one : (P (i + 1) || (P (i - 1) || (P (i + 320) || (P (i + 319) || (P (i - 320) || P (i - 319)))))) ≡ true → (j : ℕ) × Beside i j × (P j ≡ true)
       one q = ⊎-elim (λ (p : P (i + 1) ≡ true). (i + 1, east refl, p)) two (cases (P (i + 1)) _ q)
 
--- two corners of one frame
-pub corners-beside : (o : ℕ) (f : Frame) (t r t′ r′ : ℕ) → HasCorner f t r → HasCorner f t′ r′ → Beside (spot o t r) (spot o t′ r′)
+-- two corners of one triangle
+pub corners-beside : (o : ℕ) (f : Triangle) (t r t′ r′ : ℕ) → HasCorner f t r → HasCorner f t′ r′ → Beside (spot o t r) (spot o t′ r′)
 corners-beside o (up a b) t r t′ r′ (inl e) (inl d) = same (omega arith)
 corners-beside o (up a b) t r t′ r′ (inl e) (inr (inl d)) = north (omega arith)
 corners-beside o (up a b) t r t′ r′ (inl e) (inr (inr d)) = east (omega arith)
@@ -82,9 +82,9 @@ corners-beside o (down a b) t r t′ r′ (inr (inr e)) (inl d) = west (omega ar
 corners-beside o (down a b) t r t′ r′ (inr (inr e)) (inr (inl d)) = south (omega arith)
 corners-beside o (down a b) t r t′ r′ (inr (inr e)) (inr (inr d)) = same (omega arith)
 
--- a frame of n rows that has both
-abbrev pub Frame-with : ℕ → ℕ → ℕ → ℕ → ℕ → Type 0
-Frame-with n t r t′ r′ = (f : Frame) × (span f ≤ n) × HasCorner f t r × HasCorner f t′ r′
+-- a triangle of n rows that has both
+abbrev pub Triangle-with : ℕ → ℕ → ℕ → ℕ → ℕ → Type 0
+Triangle-with n t r t′ r′ = (f : Triangle) × (span f ≤ n) × HasCorner f t r × HasCorner f t′ r′
 
 -- below, or not
 below : (a b : ℕ) → (a < b) ⊎ (b ≤ a)
@@ -94,8 +94,8 @@ below a b = go (ltb a b) refl
     go true e = inl (ltb-true a b e)
     go false e = inr (ltb-false a b e)
 
--- every point is a corner of some frame
-lone : (n t r : ℕ) → 1 ≤ n → t + r ≤ n → Frame-with n t r t r
+-- every point is a corner of some triangle
+lone : (n t r : ℕ) → 1 ≤ n → t + r ≤ n → Triangle-with n t r t r
 unfolding span
 lone n t r h l = ⊎-elim
     (λ (s : t + r < n). (up t r, omega arith, inl (refl, refl), inl (refl, refl)))
@@ -109,29 +109,29 @@ lone n t r h l = ⊎-elim
 one-spot : (n o t r o′ t′ r′ : ℕ) → n ≤ 256 → t + r ≤ n + 1 → t′ + r′ ≤ n + 1 → spot o t r ≡ spot o′ t′ r′ → (o ≡ o′) × (t ≡ t′) × (r ≡ r′)
 one-spot n o t r o′ t′ r′ m l l′ e = spot-same o t r o′ t′ r′ (omega arith) (omega arith) (omega arith) (omega arith) e
 
--- two points beside each other are in one octant, and corners of one frame
-pub beside-frame : (n o t r o′ t′ r′ : ℕ) → 1 ≤ n → n ≤ 256 → t + r ≤ n → t′ + r′ ≤ n → Beside (spot o t r) (spot o′ t′ r′) →
-    (o ≡ o′) × Frame-with n t r t′ r′
+-- two points beside each other are in one octant, and corners of one triangle
+pub beside-triangle : (n o t r o′ t′ r′ : ℕ) → 1 ≤ n → n ≤ 256 → t + r ≤ n → t′ + r′ ≤ n → Beside (spot o t r) (spot o′ t′ r′) →
+    (o ≡ o′) × Triangle-with n t r t′ r′
 unfolding span
-beside-frame n o t r o′ t′ r′ h m l l′ (same e) =
+beside-triangle n o t r o′ t′ r′ h m l l′ (same e) =
     let q = one-spot n o t r o′ t′ r′ m (omega arith) (omega arith) (omega arith) in
     let w = lone n t r h l in
     (q .0, (w .0, w .1, w .2, subst (λ (x : ℕ). HasCorner (w .0) x r′) (q .1) (subst (λ (x : ℕ). HasCorner (w .0) t x) (q .2) (w .3))))
-beside-frame n o t r o′ t′ r′ h m l l′ (east e) =
+beside-triangle n o t r o′ t′ r′ h m l l′ (east e) =
     let q = one-spot n o t (r + 1) o′ t′ r′ m (omega arith) (omega arith) (omega arith) in
     (q .0, (up t r, omega arith, inl (refl, refl), inr (inr (sym (q .1), sym (q .2)))))
-beside-frame n o t r o′ t′ r′ h m l l′ (west e) =
+beside-triangle n o t r o′ t′ r′ h m l l′ (west e) =
     let q = one-spot n o t r o′ t′ (r′ + 1) m (omega arith) (omega arith) (omega arith) in
     (q .0, (up t r′, omega arith, inr (inr (refl, q .2)), inl (sym (q .1), refl)))
-beside-frame n o t r o′ t′ r′ h m l l′ (north e) =
+beside-triangle n o t r o′ t′ r′ h m l l′ (north e) =
     let q = one-spot n o (t + 1) r o′ t′ r′ m (omega arith) (omega arith) (omega arith) in
     (q .0, (up t r, omega arith, inl (refl, refl), inr (inl (sym (q .1), sym (q .2)))))
-beside-frame n o t r o′ t′ r′ h m l l′ (north-west e) =
+beside-triangle n o t r o′ t′ r′ h m l l′ (north-west e) =
     let q = one-spot n o (t + 1) r o′ t′ (r′ + 1) m (omega arith) (omega arith) (omega arith) in
     (q .0, (up t r′, omega arith, inr (inr (refl, q .2)), inr (inl (sym (q .1), refl))))
-beside-frame n o t r o′ t′ r′ h m l l′ (south e) =
+beside-triangle n o t r o′ t′ r′ h m l l′ (south e) =
     let q = one-spot n o t r o′ (t′ + 1) r′ m (omega arith) (omega arith) (omega arith) in
     (q .0, (up t′ r, omega arith, inr (inl (q .1, refl)), inl (refl, sym (q .2))))
-beside-frame n o t r o′ t′ r′ h m l l′ (south-east e) =
+beside-triangle n o t r o′ t′ r′ h m l l′ (south-east e) =
     let q = one-spot n o t (r + 1) o′ (t′ + 1) r′ m (omega arith) (omega arith) (omega arith) in
     (q .0, (up t′ r, omega arith, inr (inl (q .1, refl)), inr (inr (refl, sym (q .2)))))

@@ -9,14 +9,14 @@ use lib.Dec.{leb, ltb}
 use lib.Pow.{pow-mono}
 use borrow.Author.Tests.{leb-true, ltb-true, le-leb, lt-ltb}
 use Rattle.refusal.proofs.Tests.{clash, both, parts, left, right, cases}
-use Rattle.cell.specs.Cell.{Frame, up, down, span, Place, place, number, Occurs}
+use Rattle.cell.specs.Cell.{Triangle, up, down, span, Place, place, number, Occurs}
 use Rattle.cell.proofs.Laws.{place-occurs, place-number, number-place, number-below}
 use Rattle.rows.specs.Rows.{spot, octantAt, rowAt, colAt, inside}
 use Rattle.rows.proofs.Spots.{spot-again, spot-octant, spot-row, spot-col, spot-same, inside-is, inside-spot}
 use Rattle.raster.specs.Raster.{cellAt}
 use Rattle.stencil.specs.Stencil.{pointsOf, inRows}
 use Rattle.spread.specs.Spread.{HasCorner, CellWith, Corners}
-use Rattle.spread.proofs.Frames.{corner-within}
+use Rattle.spread.proofs.Triangles.{corner-within}
 
 -- N is at most 256
 pub rows-256 : (k : ℕ) → k ≤ 8 → 2 ^ k ≤ 256
@@ -25,7 +25,7 @@ rows-256 k h = pow-mono {i = k} {j = 8} h
 -- ---- the spot of a cell
 
 -- a cell of a set at spot i, of one kind
-pub record CellOut (kind : ℕ → ℕ → Frame) (k : ℕ) (A : ℕ → Bool) (i : ℕ) : Type 0 where
+pub record CellOut (kind : ℕ → ℕ → Triangle) (k : ℕ) (A : ℕ → Bool) (i : ℕ) : Type 0 where
   pub o : ℕ
   pub a : ℕ
   pub b : ℕ
@@ -33,7 +33,7 @@ pub record CellOut (kind : ℕ → ℕ → Frame) (k : ℕ) (A : ℕ → Bool) (
   pub in-set : A (number k (o, kind a b)) ≡ true
   pub is : i ≡ spot o a b
 
-pub cell-out : (kind : ℕ → ℕ → Frame) (k : ℕ) (A : ℕ → Bool) (i : ℕ) → cellAt kind k A i ≡ true → CellOut kind k A i
+pub cell-out : (kind : ℕ → ℕ → Triangle) (k : ℕ) (A : ℕ → Bool) (i : ℕ) → cellAt kind k A i ≡ true → CellOut kind k A i
 unfolding cellAt
 cell-out kind k A i e =
     let p = parts (leb 640 i && (ltb (octantAt i) 8 && leb (span (kind (rowAt i) (colAt i))) (2 ^ k))) _ e in
@@ -48,7 +48,7 @@ cell-out kind k A i e =
       is = sym (spot-again i (leb-true 640 i (q .0)));
     }
 
-pub cell-in : (kind : ℕ → ℕ → Frame) (k : ℕ) (A : ℕ → Bool) (o a b : ℕ) → a < 258 → b < 320 → Occurs k (o, kind a b) →
+pub cell-in : (kind : ℕ → ℕ → Triangle) (k : ℕ) (A : ℕ → Bool) (o a b : ℕ) → a < 258 → b < 320 → Occurs k (o, kind a b) →
     A (number k (o, kind a b)) ≡ true → cellAt kind k A (spot o a b) ≡ true
 unfolding cellAt
 cell-in kind k A o a b ha hb h e =
@@ -59,14 +59,14 @@ cell-in kind k A o a b ha hb h e =
     let l : leb 640 i ≡ true = le-leb 640 i (omega arith) in
     let x : ltb (octantAt i) 8 ≡ true = ap (λ (n : ℕ). ltb n 8) eo ∙ lt-ltb o 8 (h .0) in
     let f : kind (rowAt i) (colAt i) ≡ kind a b = rw (ea, eb) in
-    let y : leb (span (kind (rowAt i) (colAt i))) (2 ^ k) ≡ true = ap (λ (g : Frame). leb (span g) (2 ^ k)) f ∙ le-leb (span (kind a b)) (2 ^ k) (h .1) in
+    let y : leb (span (kind (rowAt i) (colAt i))) (2 ^ k) ≡ true = ap (λ (g : Triangle). leb (span g) (2 ^ k)) f ∙ le-leb (span (kind a b)) (2 ^ k) (h .1) in
     let z : A (number k (octantAt i, kind (rowAt i) (colAt i))) ≡ true = rw (eo, f) e in
     both _ _ (both _ _ l (both _ _ x y)) z
 
 -- ---- a cell of a set with a corner
 
 -- by its place
-pub with-corner : (k : ℕ) (A : ℕ → Bool) (o : ℕ) (f : Frame) (t r : ℕ) → Occurs k (o, f) → A (number k (o, f)) ≡ true → HasCorner f t r → CellWith k A o t r
+pub with-corner : (k : ℕ) (A : ℕ → Bool) (o : ℕ) (f : Triangle) (t r : ℕ) → Occurs k (o, f) → A (number k (o, f)) ≡ true → HasCorner f t r → CellWith k A o t r
 with-corner k A o f t r h e c =
     let p = place-number k (o, f) h in
     (number k (o, f), number-below k (o, f) h, e, ap (λ (q : Place). q .0) p, subst (λ (q : Place). HasCorner (q .1) t r) (sym p) c)
@@ -83,7 +83,7 @@ with-inside k A o t r w =
 abbrev pub CornerAt : ℕ → (ℕ → Bool) → ℕ → Type 0
 CornerAt k A i = (o : ℕ) × (t : ℕ) × (r : ℕ) × (i ≡ spot o t r) × CellWith k A o t r
 
-at-corner : (k : ℕ) (A : ℕ → Bool) (kind : ℕ → ℕ → Frame) (j : ℕ) (w : CellOut kind k A j) (i t r : ℕ) → i ≡ spot (w .o) t r →
+at-corner : (k : ℕ) (A : ℕ → Bool) (kind : ℕ → ℕ → Triangle) (j : ℕ) (w : CellOut kind k A j) (i t r : ℕ) → i ≡ spot (w .o) t r →
     HasCorner (kind (w .a) (w .b)) t r → CornerAt k A i
 at-corner k A kind j w i t r e c = (w .o, t, r, e, with-corner k A (w .o) (kind (w .a) (w .b)) t r (w .occurs) (w .in-set) c)
 
@@ -131,7 +131,7 @@ module _ (k : ℕ) (A U D : ℕ → Bool) (us : (i : ℕ) → U i ≡ cellAt up 
     unfolding span
     own-down o a b l e i q = ds i ∙ subst (λ (x : ℕ). cellAt down k A x ≡ true) (sym q) (cell-in down k A o a b (omega (arith, rows-256 k h)) (omega (arith, rows-256 k h)) l e)
 
-    at-place : (o : ℕ) (f : Frame) (t r : ℕ) → Occurs k (o, f) → A (number k (o, f)) ≡ true → HasCorner f t r → pointsOf U D (spot o t r) ≡ true
+    at-place : (o : ℕ) (f : Triangle) (t r : ℕ) → Occurs k (o, f) → A (number k (o, f)) ≡ true → HasCorner f t r → pointsOf U D (spot o t r) ≡ true
     unfolding pointsOf
     at-place o (up a b) t r l e (inl c) = left (U (spot o t r)) _ (own-up o a b l e (spot o t r) (omega arith))
     at-place o (up a b) t r l e (inr (inl c)) =

@@ -1,5 +1,5 @@
 pub mod Touching
-pub mod Frames
+pub mod Triangles
 pub mod Beside
 pub mod Cells
 pub mod Spread

@@ -11,21 +11,21 @@ use lib.Dec.{leb, ltb}
 use lib.ListN.{getD}
 use borrow.Author.Tests.{le-leb, lt-ltb}
 use Rattle.refusal.proofs.Tests.{same-test, both, parts, left, right, cases}
-use Rattle.cell.specs.Cell.{Frame, up, down, span, Place, place, number, Occurs, cells}
+use Rattle.cell.specs.Cell.{Triangle, up, down, span, Place, place, number, Occurs, cells}
 use Rattle.cell.proofs.Laws.{place-occurs, place-number, number-below}
 use Rattle.corner.specs.Corner.{Point, corner, corners, samePoint, among, touches}
 use Rattle.corner.proofs.Common.{among-index, index-among, samePoint-refl, common-meeting, meeting-common}
 use Rattle.mask.specs.Reach.{grown}
 use Rattle.rows.specs.Rows.{lit, spot, octantAt, rowAt, colAt, inside}
 use Rattle.rows.proofs.Spots.{inside-is, inside-spot, spot-octant, spot-row, spot-col, small}
-use Rattle.raster.specs.Raster.{frameLit, cellLit}
+use Rattle.raster.specs.Raster.{triangleLit, cellLit}
 use Rattle.seam.specs.Seam.{pointAt, joined}
 use Rattle.seam.proofs.Laws.{same-corner, joined-out, joined-in, joined-stays}
 use Rattle.stencil.specs.Stencil.{nearOf, upOf, downOf, inRows, inCellRows}
 use Rattle.spread.specs.Spread.{HasCorner, CellWith, CellAt, Corners, Points}
 use Rattle.spread.proofs.Touching.{one-in, one-out}
-use Rattle.spread.proofs.Frames.{corner-at, corner-index, corner-within}
-use Rattle.spread.proofs.Beside.{Beside, near-in, near-out, corners-beside, beside-frame}
+use Rattle.spread.proofs.Triangles.{corner-at, corner-index, corner-within}
+use Rattle.spread.proofs.Beside.{Beside, near-in, near-out, corners-beside, beside-triangle}
 use Rattle.spread.proofs.Cells.{rows-256, with-corner, with-inside, in-rows, written}
 
 -- ---- points and corners
@@ -129,8 +129,8 @@ grown-corner k P A h s c l g =
 abbrev Stepped : ℕ → (ℕ → Bool) → ℕ → Bool
 Stepped k A = grown (cells k) (touches k) 1 A
 
--- a frame of which one corner is set is that of such a cell
-stepped-with : (k : ℕ) (P A : ℕ → Bool) → k ≤ 8 → Points k P A → (o : ℕ) (g : Frame) (t r t′ r′ : ℕ) → Occurs k (o, g) → HasCorner g t r →
+-- a triangle of which one corner is set is that of such a cell
+stepped-with : (k : ℕ) (P A : ℕ → Bool) → k ≤ 8 → Points k P A → (o : ℕ) (g : Triangle) (t r t′ r′ : ℕ) → Occurs k (o, g) → HasCorner g t r →
     HasCorner g t′ r′ → P (spot o t′ r′) ≡ true → CellWith k (Stepped k A) o t r
 stepped-with k P A h s o g t r t′ r′ l c c′ p =
     let at = place-number k (o, g) l in
@@ -143,7 +143,7 @@ stepped-with k P A h s o g t r t′ r′ l c c′ p =
 beside-stepped : (k : ℕ) (P A : ℕ → Bool) → k ≤ 8 → Points k P A → (o t r o′ t′ r′ : ℕ) → o < 8 → t + r ≤ 2 ^ k → t′ + r′ ≤ 2 ^ k →
     Beside (spot o t r) (spot o′ t′ r′) → P (spot o′ t′ r′) ≡ true → CellWith k (Stepped k A) o t r
 beside-stepped k P A h s o t r o′ t′ r′ l m m′ b p =
-    let q = beside-frame (2 ^ k) o t r o′ t′ r′ (one-le-pow k 2 (omega arith)) (rows-256 k h) m m′ b in
+    let q = beside-triangle (2 ^ k) o t r o′ t′ r′ (one-le-pow k 2 (omega arith)) (rows-256 k h) m m′ b in
     stepped-with k P A h s o (q .1 .0) t r t′ r′ (l, q .1 .1) (q .1 .2) (q .1 .3) (subst (λ (x : ℕ). P (spot x t′ r′) ≡ true) (sym (q .0)) p)
 
 -- what is near the points of a set's cells, within the level: the corners of the cells one touching step on
@@ -202,7 +202,7 @@ module _ (P : ℕ → Bool) (o a b : ℕ) where
   down-any t r (inr (inl e)) p = right (P (spot o a b + 320)) _ (left (P (spot o a b + 1)) _ (move (spot o t r) (spot o a b + 1) (omega arith) p))
   down-any t r (inr (inr e)) p = right (P (spot o a b + 320)) _ (right (P (spot o a b + 1)) _ (move (spot o t r) (spot o a b + 321) (omega arith) p))
 
-  abbrev Some : Frame → Type 0
+  abbrev Some : Triangle → Type 0
   Some g = (t : ℕ) × (r : ℕ) × HasCorner g t r × (P (spot o t r) ≡ true)
 
   up-some : upOf P (spot o a b) ≡ true → Some (up a b)
@@ -235,15 +235,15 @@ module _ (k : ℕ) (P A : ℕ → Bool) (h : k ≤ 8) (s : Points k P A) (u u₀
   unfolding span
   set-down o a b l = ds (spot o a b) ∙ ap (λ (x : Bool). cond x (downOf P (spot o a b)) (lit d₀ (spot o a b))) (in-cell-rows k o a b h (l .0) (omega arith))
 
-  frame-any : (o : ℕ) (g : Frame) → Occurs k (o, g) → (t r : ℕ) → HasCorner g t r → P (spot o t r) ≡ true → frameLit u d o g ≡ true
-  unfolding frameLit
-  frame-any o (up a b) l t r c p = set-up o a b l ∙ up-any P o a b t r c p
-  frame-any o (down a b) l t r c p = set-down o a b l ∙ down-any P o a b t r c p
+  triangle-any : (o : ℕ) (g : Triangle) → Occurs k (o, g) → (t r : ℕ) → HasCorner g t r → P (spot o t r) ≡ true → triangleLit u d o g ≡ true
+  unfolding triangleLit
+  triangle-any o (up a b) l t r c p = set-up o a b l ∙ up-any P o a b t r c p
+  triangle-any o (down a b) l t r c p = set-down o a b l ∙ down-any P o a b t r c p
 
-  frame-some : (o : ℕ) (g : Frame) → Occurs k (o, g) → frameLit u d o g ≡ true → (t : ℕ) × (r : ℕ) × HasCorner g t r × (P (spot o t r) ≡ true)
-  unfolding frameLit
-  frame-some o (up a b) l e = up-some P o a b (sym (set-up o a b l) ∙ e)
-  frame-some o (down a b) l e = down-some P o a b (sym (set-down o a b l) ∙ e)
+  triangle-some : (o : ℕ) (g : Triangle) → Occurs k (o, g) → triangleLit u d o g ≡ true → (t : ℕ) × (r : ℕ) × HasCorner g t r × (P (spot o t r) ≡ true)
+  unfolding triangleLit
+  triangle-some o (up a b) l e = up-some P o a b (sym (set-up o a b l) ∙ e)
+  triangle-some o (down a b) l e = down-some P o a b (sym (set-down o a b l) ∙ e)
 
   -- each cell's spot tells whether it is one touching step on
   pub cells-grown : (c : ℕ) → c < cells k → cellLit k u d c ≡ grown (cells k) (touches k) 1 A c
@@ -251,9 +251,9 @@ module _ (k : ℕ) (P A : ℕ → Bool) (h : k ≤ 8) (s : Points k P A) (u u₀
   cells-grown c l =
       let p = place k c in
       let n = place-occurs k c l in
-      same-test (frameLit u d (p .0) (p .1)) (grown (cells k) (touches k) 1 A c)
-      (λ e. let w = frame-some (p .0) (p .1) n e in grown-at k P A h s c (w .0) (w .1) l (w .2) (w .3))
-      (λ e. let w = grown-corner k P A h s c l e in frame-any (p .0) (p .1) n (w .0) (w .1) (w .2) (w .3))
+      same-test (triangleLit u d (p .0) (p .1)) (grown (cells k) (touches k) 1 A c)
+      (λ e. let w = triangle-some (p .0) (p .1) n e in grown-at k P A h s c (w .0) (w .1) l (w .2) (w .3))
+      (λ e. let w = grown-corner k P A h s c l e in triangle-any (p .0) (p .1) n (w .0) (w .1) (w .2) (w .3))
 
 -- ---- the set may be said otherwise
 

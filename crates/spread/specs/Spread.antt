@@ -4,13 +4,13 @@ use Prim.Native.Nat.{ℕ, _+_, _≤_, _<_, _^_}
 use mathlib.Core.Path.{_≡_}
 use mathlib.Core.Bool.{Bool, true}
 use mathlib.Core.Logic.{_⊎_}
-use Rattle.cell.specs.Cell.{Frame, up, down, place, cells}
+use Rattle.cell.specs.Cell.{Triangle, up, down, place, cells}
 use Rattle.corner.specs.Corner.{corners, among}
 use Rattle.rows.specs.Rows.{spot, inside}
 use Rattle.seam.specs.Seam.{pointAt}
 
--- row t and column r are a corner of a frame
-abbrev pub HasCorner : Frame → ℕ → ℕ → Type 0
+-- row t and column r are a corner of a triangle
+abbrev pub HasCorner : Triangle → ℕ → ℕ → Type 0
 HasCorner (up a b) t r = ((t ≡ a) × (r ≡ b)) ⊎ (((t ≡ a + 1) × (r ≡ b)) ⊎ ((t ≡ a) × (r ≡ b + 1)))
 HasCorner (down a b) t r = ((t ≡ a + 1) × (r ≡ b)) ⊎ (((t ≡ a) × (r ≡ b + 1)) ⊎ ((t ≡ a + 1) × (r ≡ b + 1)))
 

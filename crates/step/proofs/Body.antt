@@ -10,7 +10,7 @@ use lib.Dec.{leb, ltb, eqb}
 use lib.Pow.{pow-mono}
 use borrow.Author.Tests.{eqb-true, le-leb, eq-eqb, ne-eqb}
 use Rattle.refusal.proofs.Tests.{parts, same-test}
-use Rattle.cell.specs.Cell.{Frame, down, span, Place, number, Occurs, frameOf, placeOf, maxLevel}
+use Rattle.cell.specs.Cell.{Triangle, down, span, Place, number, Occurs, triangleOf, placeOf, maxLevel}
 use Rattle.cell.specs.declared.Kind.{Kind}
 use Rattle.cell.specs.declared.Kind.the-variants.{Up, Down}
 use Rattle.cell.specs.declared.Place as declared
@@ -27,13 +27,13 @@ rows-shifted k h = shifted 32 k (omega arith)
 pub rows-bound : (k : ℕ) → k ≤ maxLevel → 2 ^ k ≤ 2 ^ maxLevel
 rows-bound k h = pow-mono {i = k} {j = maxLevel} h
 
--- a frame with one less is inside the octant where every such frame is: it is there where the number is not 0, as the code tests it
-pub inside-less : (k o n : ℕ) (g : ℕ → Frame) → ((m : ℕ) → n ≡ suc m → span (g m) ≤ 2 ^ k) →
+-- a triangle with one less is inside the octant where every such triangle is: it is there where the number is not 0, as the code tests it
+pub inside-less : (k o n : ℕ) (g : ℕ → Triangle) → ((m : ℕ) → n ≡ suc m → span (g m) ≤ 2 ^ k) →
     inside k o (less n g) ≡ foundIf (not (eqb n 0)) (o, g (n - 1))
 inside-less k o zero g h = refl
 inside-less k o (suc m) g h = let e : suc m - 1 ≡ m = omega arith in rw (e, le-leb _ _ (h m refl), ne-eqb (suc m) 0 (omega arith))
 
--- whether a frame lies inside the octant, as the code tests it
+-- whether a triangle lies inside the octant, as the code tests it
 pub inside-test : (k n m : ℕ) → k ≤ maxLevel → m ≡ suc n → leb m (2 ^ k) ≡ ltb n (1 * 2 ^ k % 2 ^ 32)
 inside-test k n m h e = rw (rows-shifted k h, e)
 
@@ -62,14 +62,14 @@ down-stays k o a b = code-cases (λ (c : ℕ). 4 < c → step k (o, down a b) c 
 
 -- ---- places that agree in each field
 
--- the kinds of two frames of one row and column tell them apart
-frames-same : (s t : Kind) (a b : ℕ) → sameKind s t ≡ true → frameOf s a b ≡ frameOf t a b
-frames-same Up Up a b e = refl
-frames-same Up Down a b e = absurd (false≢true e)
-frames-same Down Up a b e = absurd (false≢true e)
-frames-same Down Down a b e = refl
+-- the kinds of two triangles of one row and column tell them apart
+triangles-same : (s t : Kind) (a b : ℕ) → sameKind s t ≡ true → triangleOf s a b ≡ triangleOf t a b
+triangles-same Up Up a b e = refl
+triangles-same Up Down a b e = absurd (false≢true e)
+triangles-same Down Up a b e = absurd (false≢true e)
+triangles-same Down Down a b e = refl
 
-kinds-same : (s t : Kind) (a b a′ b′ : ℕ) → frameOf s a b ≡ frameOf t a′ b′ → (eqb a a′ ≡ true) × (eqb b b′ ≡ true) × (sameKind s t ≡ true)
+kinds-same : (s t : Kind) (a b a′ b′ : ℕ) → triangleOf s a b ≡ triangleOf t a′ b′ → (eqb a a′ ≡ true) × (eqb b b′ ≡ true) × (sameKind s t ≡ true)
 kinds-same Up Up a b a′ b′ e = (eq-eqb a a′ (cc), eq-eqb b b′ (cc), refl)
 kinds-same Up Down a b a′ b′ e = absurd (false≢true (cc))
 kinds-same Down Up a b a′ b′ e = absurd (false≢true (cc))
@@ -87,7 +87,7 @@ agree p q = (to, from)
         let o = eqb-true (p .octant) (q .octant) (z .0) in
         let a = eqb-true (p .row) (q .row) (z .1) in
         let b = eqb-true (p .col) (q .col) (y .1) in
-        let f : placeOf p .1 ≡ placeOf q .1 = rw (a, b) (frames-same (p .kind) (q .kind) (q .row) (q .col) (x .1)) in
+        let f : placeOf p .1 ≡ placeOf q .1 = rw (a, b) (triangles-same (p .kind) (q .kind) (q .row) (q .col) (x .1)) in
         λ i. (o i, f i)
 
     from : placeOf p ≡ placeOf q → samePlace p q ≡ true

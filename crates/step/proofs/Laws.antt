@@ -13,15 +13,15 @@ use lib.Dec.{leb, eqb}
 use lib.ListN.{getD, List·getD-map, List·getD-eq-default}
 use borrow.Author.Tests.{leb-true, leb-false, eqb-true, le-leb, eq-eqb, ne-eqb}
 use Rattle.refusal.proofs.Tests.{clash}
-use Rattle.cell.specs.Cell.{Frame, up, down, span, Place, place, number, Occurs}
+use Rattle.cell.specs.Cell.{Triangle, up, down, span, Place, place, number, Occurs}
 use Rattle.cell.proofs.Laws.{place-number, number-place}
 use Rattle.step.specs.Step.{across, east, west, less, foundIf, inside, steps, step, leadsTo, firstTrue, codeTo}
 use Rattle.step.specs.Neighbours.{back, direct, Direct, One, Three}
 
 -- ---- the table as a relation
 
--- the steps inside an octant, from one frame along a code to another
-pub data Inner : Frame → ℕ → Frame → Type 0 where
+-- the steps inside an octant, from one triangle along a code to another
+pub data Inner : Triangle → ℕ → Triangle → Type 0 where
   up-t : {a a′ b : ℕ} → a ≡ suc a′ → Inner (up a b) 0 (down a′ b)
   up-l : {a b b′ : ℕ} → b ≡ suc b′ → Inner (up a b) 1 (down a b′)
   up-r : {a b : ℕ} → Inner (up a b) 2 (down a b)
@@ -35,7 +35,7 @@ pub data Inner : Frame → ℕ → Frame → Type 0 where
 
 -- the steps at level k: those inside an octant, and those over one of its three edges
 pub data Move (k : ℕ) : Place → ℕ → Place → Type 0 where
-  stay : {o c : ℕ} {f f′ : Frame} → Inner f c f′ → span f′ ≤ 2 ^ k → Move k (o, f) c (o, f′)
+  stay : {o c : ℕ} {f f′ : Triangle} → Inner f c f′ → span f′ ≤ 2 ^ k → Move k (o, f) c (o, f′)
   over-T : {o o′ a b : ℕ} → o′ ≡ across o → a ≡ 0 → Move k (o, up a b) 5 (o′, up a b)
   over-E : {o o′ a b b′ : ℕ} → o′ ≡ east o → a + b + 1 ≡ 2 ^ k → b′ ≡ 0 → Move k (o, up a b) 6 (o′, up a b′)
   over-W : {o o′ a b b′ : ℕ} → o′ ≡ west o → b ≡ 0 → b′ ≡ 2 ^ k - 1 - a → Move k (o, up a b) 7 (o′, up a b′)
@@ -62,12 +62,12 @@ if-cases : (P : Place → Type 0) (t : Bool) (x : Place) → (t ≡ true → P x
 if-cases P true x h r e = subst P (Option·some-injective x r e) (h refl)
 if-cases P false x h r e = absent r e
 
--- an entry that holds a step where its frame lies inside the octant
-inside-cases : (k o : ℕ) (P : Place → Type 0) (f : Frame) → (span f ≤ 2 ^ k → P (o, f)) → (r : Place) → inside k o (some f) ≡ some r → P r
+-- an entry that holds a step where its triangle lies inside the octant
+inside-cases : (k o : ℕ) (P : Place → Type 0) (f : Triangle) → (span f ≤ 2 ^ k → P (o, f)) → (r : Place) → inside k o (some f) ≡ some r → P r
 inside-cases k o P f h = if-cases P (leb (span f) (2 ^ k)) (o, f) (λ e. h (leb-true _ _ e))
 
--- the same of a frame with one less than n
-less-cases : (k o : ℕ) (P : ℕ → Place → Type 0) (g : ℕ → Frame) →
+-- the same of a triangle with one less than n
+less-cases : (k o : ℕ) (P : ℕ → Place → Type 0) (g : ℕ → Triangle) →
     ((m : ℕ) → span (g m) ≤ 2 ^ k → P (suc m) (o, g m)) → (n : ℕ) (r : Place) → inside k o (less n g) ≡ some r → P n r
 less-cases k o P g h zero r e = absent r e
 less-cases k o P g h (suc m) r e = inside-cases k o (P (suc m)) (g m) (h m) r e
@@ -77,7 +77,7 @@ pub step-move : (k : ℕ) (p : Place) (c : ℕ) (r : Place) → step k p c ≡ s
 unfolding step steps
 step-move k p c r e = go (p .0) (p .1) c r e
   where
-    go : (o : ℕ) (f : Frame) (c : ℕ) (r : Place) → step k (o, f) c ≡ some r → Move k (o, f) c r
+    go : (o : ℕ) (f : Triangle) (c : ℕ) (r : Place) → step k (o, f) c ≡ some r → Move k (o, f) c r
     go o (up a b) c r = code-cases (λ (c : ℕ). step k (o, up a b) c ≡ some r → Move k (o, up a b) c r)
         (less-cases k o (λ a r. Move k (o, up a b) 0 r) (λ a′. down a′ b) (λ a′. stay (up-t refl)) a r)
         (less-cases k o (λ b r. Move k (o, up a b) 1 r) (λ b′. down a b′) (λ b′. stay (up-l refl)) b r)
@@ -106,7 +106,7 @@ pub move-step : (k : ℕ) {p : Place} {c : ℕ} {r : Place} → Move k p c r →
 unfolding step steps
 move-step k (stay i h) = inner i h
   where
-    inner : {o : ℕ} {f : Frame} {c : ℕ} {f′ : Frame} → Inner f c f′ → span f′ ≤ 2 ^ k → step k (o, f) c ≡ some (o, f′)
+    inner : {o : ℕ} {f : Triangle} {c : ℕ} {f′ : Triangle} → Inner f c f′ → span f′ ≤ 2 ^ k → step k (o, f) c ≡ some (o, f′)
     inner (up-t e) h = simp (e, le-leb _ _ h)
     inner (up-l e) h = simp (e, le-leb _ _ h)
     inner up-r h = simp (le-leb _ _ h)
@@ -124,7 +124,7 @@ move-step k (over-W x e z) = simp (x, z, eq-eqb _ _ e)
 -- ---- where the codes lead
 
 -- the steps inside an octant have the codes t, l, r, e, w
-inner-below : {f : Frame} {c : ℕ} {f′ : Frame} → Inner f c f′ → c < 5
+inner-below : {f : Triangle} {c : ℕ} {f′ : Triangle} → Inner f c f′ → c < 5
 inner-below (up-t e) = omega arith
 inner-below (up-l e) = omega arith
 inner-below up-r = omega arith
@@ -214,14 +214,14 @@ one-place k p q h g e = sym (place-number k p h) ∙ ap (place k) e ∙ place-nu
 
 -- ---- one code for each neighbour
 
--- the code of a step inside an octant, read off its two frames
-innerCode : Frame → Frame → ℕ
+-- the code of a step inside an octant, read off its two triangles
+innerCode : Triangle → Triangle → ℕ
 innerCode (up a b) (down a′ b′) = 2 - 2 * (a - a′) - (b - b′)
 innerCode (up a b) (up a′ b′) = 3 + (b - b′)
 innerCode (down a b) (up a′ b′) = 1 + (b′ - b) - (a′ - a)
 innerCode (down a b) (down a′ b′) = 3 + (b - b′)
 
-inner-code : {f : Frame} {c : ℕ} {f′ : Frame} → Inner f c f′ → innerCode f f′ ≡ c
+inner-code : {f : Triangle} {c : ℕ} {f′ : Triangle} → Inner f c f′ → innerCode f f′ ≡ c
 unfolding innerCode
 inner-code (up-t e) = omega arith
 inner-code (up-l e) = omega arith
@@ -260,7 +260,7 @@ pub step-back : (k : ℕ) (p : Place) (c : ℕ) (r : Place) → Occurs k p → s
 unfolding back across east west span
 step-back k p c r h e = move-step k (go (step-move k p c r e) h)
   where
-    inner : {f : Frame} {c : ℕ} {f′ : Frame} → Inner f c f′ → Inner f′ (back c) f
+    inner : {f : Triangle} {c : ℕ} {f′ : Triangle} → Inner f c f′ → Inner f′ (back c) f
     inner (up-t e) = down-t e
     inner (up-l e) = down-r e
     inner up-r = down-l
@@ -320,7 +320,7 @@ apart k p c c′ d d′ x y h (inr u) (inl v) n e = n .2 (code-unique k p c′ d
 apart k p c c′ d d′ x y h (inr u) (inr v) n e = n .3 (code-unique k p c′ d′ x h (u .1) (rw e (v .1)))
 
 -- one of each pair of direct steps exists
-pairs : (k o : ℕ) (f : Frame) → Occurs k (o, f) →
+pairs : (k o : ℕ) (f : Triangle) → Occurs k (o, f) →
     ((x : Place) × One (step k (o, f) 0) (step k (o, f) 5) x)
     × ((x : Place) × One (step k (o, f) 1) (step k (o, f) 7) x)
     × ((x : Place) × One (step k (o, f) 2) (step k (o, f) 6) x)
@@ -443,7 +443,7 @@ pub past-seven : (k : ℕ) (p : Place) (c : ℕ) → 7 < c → step k p c ≡ no
 unfolding step steps
 past-seven k p c = go (p .0) (p .1)
   where
-    go : (o : ℕ) (f : Frame) → 7 < c → step k (o, f) c ≡ none
+    go : (o : ℕ) (f : Triangle) → 7 < c → step k (o, f) c ≡ none
     go o (up a b) = List·getD-eq-default (steps k o (up a b)) none {n = c}
     go o (down a b) = List·getD-eq-default (steps k o (down a b)) none {n = c}
 

@@ -7,7 +7,7 @@ use lib.Dec.{leb, eqb}
 use lib.ListN.{getD}
 use Rattle.refusal.specs.Answer.{Answer, given, refused, Test, _when_, inOrder}
 use Rattle.refusal.specs.Tests.{badLevel}
-use Rattle.cell.specs.Cell.{Frame, up, down, span, Place, place, number, maxLevel, badCell}
+use Rattle.cell.specs.Cell.{Triangle, up, down, span, Place, place, number, maxLevel, badCell}
 use Rattle.step.specs.declared.StepAnswer.{StepAnswer}
 use Rattle.step.specs.declared.StepAnswer.the-variants as step-answer
 use Rattle.step.specs.declared.CodeAnswer.{CodeAnswer}
@@ -38,13 +38,13 @@ abbrev pub foundIf : {A : Type 0} → Bool → A → Option A
 foundIf true x = some x
 foundIf false x = none
 
--- a frame, where it lies inside the octant at level k
-abbrev pub inside : ℕ → ℕ → Option Frame → Option Place
+-- a triangle, where it lies inside the octant at level k
+abbrev pub inside : ℕ → ℕ → Option Triangle → Option Place
 inside k o none = none
 inside k o (some f) = foundIf (leb (span f) (2 ^ k)) (o, f)
 
 -- the steps from a place of octant o, for the codes t, l, r, e, w, T, E, W in turn
-unfoldable pub steps : ℕ → ℕ → Frame → List (Option Place)
+unfoldable pub steps : ℕ → ℕ → Triangle → List (Option Place)
 steps k o (up a b) =
     inside k o (less a (λ a′. down a′ b))
     ∷ inside k o (less b (λ b′. down a b′))

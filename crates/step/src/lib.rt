@@ -4,7 +4,7 @@ ghost use mathlib.Core.List.{[], _∷_};
 ghost use mathlib.Core.Path.{_≡_};
 ghost use Prim.Native.Nat.{_-_, _≤_};
 ghost use Rattle.refusal.specs.Answer.{inOrder};
-ghost use Rattle.cell.specs.Cell.{Occurs, placeOf, frameOf, number, up, down, maxLevel};
+ghost use Rattle.cell.specs.Cell.{Occurs, placeOf, triangleOf, number, up, down, maxLevel};
 ghost use Rattle.step.specs.Step.{foundIf, foundOr, badStep, step, leadsTo, codeTo, stepCall, codeCall, saidStep, saidCode};
 ghost use Rattle.step.specs.inside.Target.{targetOf, sameKind, samePlace};
 use cell::CellNumber;
@@ -43,7 +43,7 @@ fn one_less(number: u32) -> u32
 
 // A place, where a test holds.
 fn found_if(exists: bool, octant: u32, kind: Kind, row: u32, col: u32) -> Target
-    ensures { λ r. ⌜ targetOf r ≡ foundIf exists (octant, frameOf kind row col) ⌝ }
+    ensures { λ r. ⌜ targetOf r ≡ foundIf exists (octant, triangleOf kind row col) ⌝ }
 {
     if exists {
         let place = Place {

@@ -7,7 +7,7 @@ use borrow.Author.Tests.{le-leb, lt-leb, leb-true, leb-false, eq-eqb, ne-eqb, eq
 use lib.Dec.{leb, eqb}
 use Rattle.cell.specs.declared.Kind.{Kind}
 use Rattle.cell.specs.declared.Kind.the-variants.{Up, Down}
-use Rattle.cell.specs.Cell.{Frame, up, down, span, Place, Occurs, frameOf, row, col}
+use Rattle.cell.specs.Cell.{Triangle, up, down, span, Place, Occurs, triangleOf, row, col}
 use Rattle.corner.specs.Corner.{equatorial}
 use Rattle.corner.proofs.Octants.{octant-cases}
 use Rattle.touch.specs.declared.cube.Side.{Side}
@@ -15,16 +15,16 @@ use Rattle.touch.specs.declared.cube.Cube.{Cube}
 use Rattle.touch.specs.inside.Cube.{sideOf, sum, leftOver, cubeOf, northernOctant, column, placeIn, placeOfCube, equatorialSides}
 
 -- N less the bases: 1 for up, 2 for down
-unfoldable pub room : Frame → ℕ
+unfoldable pub room : Triangle → ℕ
 room (up a b) = 1
 room (down a b) = 2
 
-pub room-small : (f : Frame) → (1 ≤ room f) × (room f ≤ 2)
+pub room-small : (f : Triangle) → (1 ≤ room f) × (room f ≤ 2)
 unfolding room
 room-small (up a b) = omega arith
 room-small (down a b) = omega arith
 
-pub span-is : (f : Frame) → span f ≡ row f + col f + room f
+pub span-is : (f : Triangle) → span f ≡ row f + col f + room f
 unfolding span row col room
 span-is (up a b) = refl
 span-is (down a b) = refl
@@ -56,18 +56,18 @@ hemisphere o h = go (leb 4 o) refl
     go true e = omega (arith, leb-true 4 o e)
     go false e = omega (arith, leb-false 4 o e)
 
--- the frame is told up from down by its sum
-frame-again : (f : Frame) (n M : ℕ) → n + room f ≡ M → cond (eqb (n + 1) M) (up (row f) (col f)) (down (row f) (col f)) ≡ f
+-- the triangle is told up from down by its sum
+triangle-again : (f : Triangle) (n M : ℕ) → n + room f ≡ M → cond (eqb (n + 1) M) (up (row f) (col f)) (down (row f) (col f)) ≡ f
 unfolding room row col
-frame-again (up a b) n M e = rw (eq-eqb (n + 1) M e)
-frame-again (down a b) n M e = rw (ne-eqb (n + 1) M (λ (d : n + 1 ≡ M). omega arith))
+triangle-again (up a b) n M e = rw (eq-eqb (n + 1) M e)
+triangle-again (down a b) n M e = rw (ne-eqb (n + 1) M (λ (d : n + 1 ≡ M). omega arith))
 
 pub place-cube : (k : ℕ) (p : Place) → Occurs k p → placeOfCube k (cubeOf k p) ≡ p
 unfolding placeIn cubeOf
 place-cube k p h =
     let w = by-signs (leftOver k (p .1)) (col (p .1)) (p .0) in
     let o : placeOfCube k (cubeOf k p) .0 ≡ p .0 = rw (w .octants) (hemisphere (p .0) (h .0)) in
-    let f : placeOfCube k (cubeOf k p) .1 ≡ p .1 = rw (w .columns) (frame-again (p .1) (sum (cubeOf k p)) (2 ^ k) (sum-cube k p h)) in
+    let f : placeOfCube k (cubeOf k p) .1 ≡ p .1 = rw (w .columns) (triangle-again (p .1) (sum (cubeOf k p)) (2 ^ k) (sum-cube k p h)) in
     λ i. (o i, f i)
 
 -- ---- from a cube to its place
@@ -76,19 +76,19 @@ place-cube k p h =
 abbrev pub Spanned : ℕ → Cube → Type 0
 Spanned k c = (sum c + 1 ≤ 2 ^ k) × (2 ^ k ≤ sum c + 2)
 
-record FrameTold (k : ℕ) (c : Cube) (f : Frame) : Type 0 where
+record TriangleTold (k : ℕ) (c : Cube) (f : Triangle) : Type 0 where
   rows : row f ≡ c .z .base
   cols : col f ≡ column (c .x .negative) (c .y .negative) (c .x .base) (c .y .base)
   rooms : sum c + room f ≡ 2 ^ k
 
-frame-told : (k : ℕ) (c : Cube) → Spanned k c → FrameTold k c (placeOfCube k c .1)
+triangle-told : (k : ℕ) (c : Cube) → Spanned k c → TriangleTold k c (placeOfCube k c .1)
 unfolding placeIn row col room
-frame-told k c h = go (eqb (sum c + 1) (2 ^ k)) refl
+triangle-told k c h = go (eqb (sum c + 1) (2 ^ k)) refl
   where
     b : ℕ
     b = column (c .x .negative) (c .y .negative) (c .x .base) (c .y .base)
 
-    go : (t : Bool) → eqb (sum c + 1) (2 ^ k) ≡ t → FrameTold k c (cond t (up (c .z .base) b) (down (c .z .base) b))
+    go : (t : Bool) → eqb (sum c + 1) (2 ^ k) ≡ t → TriangleTold k c (cond t (up (c .z .base) b) (down (c .z .base) b))
     go true e = record { rows = refl; cols = refl; rooms = eqb-true (sum c + 1) (2 ^ k) e }
     go false e = let n : sum c + 1 ≡ 2 ^ k → ⊥ = eqb-false (sum c + 1) (2 ^ k) e in record { rows = refl; cols = refl; rooms = omega arith }
 
@@ -116,7 +116,7 @@ pub cube-occurs : (k : ℕ) (c : Cube) → Spanned k c → Occurs k (placeOfCube
 unfolding placeIn
 cube-occurs k c h =
     let s = sides-again (c .x .negative) (c .y .negative) (c .x .base) (c .y .base) in
-    let t = frame-told k c h in
+    let t = triangle-told k c h in
     let g = northernOctant (c .x .negative) (c .y .negative) in
     (below-eight g (s .low) (c .z .negative), omega (arith, span-is (placeOfCube k c .1), t .rows, t .cols, t .rooms, s .within))
 
@@ -132,7 +132,7 @@ cube-place k c h =
     let x = c .x .base in
     let y = c .y .base in
     let s = sides-again nx ny x y in
-    let t = frame-told k c h in
+    let t = triangle-told k c h in
     let p = placeOfCube k c in
     let l : 2 ^ k - span (p .1) ≡ x + y - column nx ny x y = omega (arith, span-is (p .1), t .rows, t .cols, t .rooms, s .within) in
     let o : p .0 % 4 ≡ northernOctant nx ny = octant-again (northernOctant nx ny) (s .low) (c .z .negative) in
@@ -140,14 +140,14 @@ cube-place k c h =
     let e : equatorialSides (p .0) (2 ^ k - span (p .1)) (col (p .1)) ≡ (c .x, c .y) = rw (l, t .cols) (s .again (p .0) o) in
     λ i. record { x = e i .0; y = e i .1; z = sideOf (n i) (t .rows i) }
 
--- ---- frames as the code holds them
+-- ---- triangles as the code holds them
 
-pub row-of : (t : Kind) (a b : ℕ) → row (frameOf t a b) ≡ a
+pub row-of : (t : Kind) (a b : ℕ) → row (triangleOf t a b) ≡ a
 unfolding row
 row-of Up a b = refl
 row-of Down a b = refl
 
-pub col-of : (t : Kind) (a b : ℕ) → col (frameOf t a b) ≡ b
+pub col-of : (t : Kind) (a b : ℕ) → col (triangleOf t a b) ≡ b
 unfolding col
 col-of Up a b = refl
 col-of Down a b = refl

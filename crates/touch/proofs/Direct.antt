@@ -8,13 +8,13 @@ use native.Mathlib.Omega.{arith}
 use borrow.Author.Tests.{ne-eqb}
 use lib.ListN.{getD}
 use Rattle.refusal.proofs.Tests.{clash}
-use Rattle.cell.specs.Cell.{Frame, up, down, span, Place, place, Occurs, cells}
+use Rattle.cell.specs.Cell.{Triangle, up, down, span, Place, place, Occurs, cells}
 use Rattle.cell.proofs.Laws.{place-occurs}
 use Rattle.step.specs.Step.{across, east, west, codeTo}
 use Rattle.step.proofs.Laws.{Inner, up-t, up-l, up-r, up-e, up-w, down-t, down-l, down-r, down-e, down-w}
 use Rattle.step.specs.Neighbours.{direct, Direct}
 use Rattle.step.proofs.Laws.{Move, stay, over-T, over-E, over-W, step-move, code-step}
-use Rattle.corner.specs.Corner.{corner, frameCorners, corners, common, touches}
+use Rattle.corner.specs.Corner.{corner, triangleCorners, corners, common, touches}
 use Rattle.corner.proofs.Common.{common-symmetric, shared-common}
 use Rattle.corner.proofs.Laws.{equator, meridian}
 
@@ -22,17 +22,17 @@ use Rattle.corner.proofs.Laws.{equator, meridian}
 
 -- corner i of the one is corner j of the other
 at-corners :
-    (k o o′ : ℕ) (f f′ : Frame) (i j : ℕ)
-    → i < 3 → j < 3 → getD (frameCorners k o f) i [] ≡ getD (frameCorners k o′ f′) j []
-    → common (frameCorners k o f) (frameCorners k o′ f′) ≡ true
-at-corners k o o′ f f′ = shared-common (frameCorners k o f) (frameCorners k o′ f′)
+    (k o o′ : ℕ) (f f′ : Triangle) (i j : ℕ)
+    → i < 3 → j < 3 → getD (triangleCorners k o f) i [] ≡ getD (triangleCorners k o′ f′) j []
+    → common (triangleCorners k o f) (triangleCorners k o′ f′) ≡ true
+at-corners k o o′ f f′ = shared-common (triangleCorners k o f) (triangleCorners k o′ f′)
 
 same-t : (k o r : ℕ) {t t′ : ℕ} → t ≡ t′ → corner k o t r ≡ corner k o t′ r
 same-t k o r e i = corner k o (e i) r
 
 -- inside an octant, two cells of different kinds
-inner-common : (k o : ℕ) {f : Frame} {c : ℕ} {f′ : Frame} → Inner f c f′ → direct c ≡ true → common (frameCorners k o f) (frameCorners k o f′) ≡ true
-unfolding frameCorners direct
+inner-common : (k o : ℕ) {f : Triangle} {c : ℕ} {f′ : Triangle} → Inner f c f′ → direct c ≡ true → common (triangleCorners k o f) (triangleCorners k o f′) ≡ true
+unfolding triangleCorners direct
 inner-common k o (up-t {a} {a′} {b} e) d = at-corners k o o (up a b) (down a′ b) 0 0 (omega arith) (omega arith) (same-t k o b (omega arith))
 inner-common k o (up-l {a} {b} {b′} e) d = at-corners k o o (up a b) (down a b′) 0 1 (omega arith) (omega arith) (ap (corner k o a) (omega arith))
 inner-common k o (up-r {a} {b}) d = at-corners k o o (up a b) (down a b) 1 0 (omega arith) (omega arith) refl
@@ -44,12 +44,12 @@ inner-common k o (down-r {a} {b} {b′} e) d = at-corners k o o (down a b) (up a
 inner-common k o (down-e e) d = clash d refl
 inner-common k o (down-w e) d = clash d refl
 
-across-common : (k o o′ a b : ℕ) → o′ ≡ across o → a ≡ 0 → common (frameCorners k o (up a b)) (frameCorners k o′ (up a b)) ≡ true
-unfolding frameCorners corner across
+across-common : (k o o′ a b : ℕ) → o′ ≡ across o → a ≡ 0 → common (triangleCorners k o (up a b)) (triangleCorners k o′ (up a b)) ≡ true
+unfolding triangleCorners corner across
 across-common k o o′ a b x e = at-corners k o o′ (up a b) (up a b) 0 0 (omega arith) (omega arith) (rw e (equator o o′ (2 ^ k - 0 - b) b (omega arith)))
 
-east-common : (k o o′ a b b′ : ℕ) → o < 8 → o′ ≡ east o → a + b + 1 ≡ 2 ^ k → b′ ≡ 0 → common (frameCorners k o (up a b)) (frameCorners k o′ (up a b′)) ≡ true
-unfolding frameCorners corner east
+east-common : (k o o′ a b b′ : ℕ) → o < 8 → o′ ≡ east o → a + b + 1 ≡ 2 ^ k → b′ ≡ 0 → common (triangleCorners k o (up a b)) (triangleCorners k o′ (up a b′)) ≡ true
+unfolding triangleCorners corner east
 east-common k o o′ a b b′ h x e z =
     let l : 2 ^ k - a - (b + 1) ≡ 0 = omega arith in
     let m : 2 ^ k - a - 0 ≡ b + 1 = omega arith in
@@ -64,14 +64,14 @@ move-common k (over-W {o} {o′} {a} {b} {b′} x e z) d h =
     let y : o ≡ east o′ = omega arith in
     let w : a + b′ + 1 ≡ 2 ^ k = omega arith in
     let l : o′ < 8 = omega arith in
-    common-symmetric (frameCorners k o (up a b)) (frameCorners k o′ (up a b′)) ∙ east-common k o′ o a b′ b l y w e
+    common-symmetric (triangleCorners k o (up a b)) (triangleCorners k o′ (up a b′)) ∙ east-common k o′ o a b′ b l y w e
 
 -- a direct neighbour is another cell: of the other kind, or of another octant
-kindOf : Frame → ℕ
+kindOf : Triangle → ℕ
 kindOf (up a b) = 0
 kindOf (down a b) = 1
 
-inner-apart : {f : Frame} {c : ℕ} {f′ : Frame} → Inner f c f′ → direct c ≡ true → kindOf f ≡ kindOf f′ → ⊥
+inner-apart : {f : Triangle} {c : ℕ} {f′ : Triangle} → Inner f c f′ → direct c ≡ true → kindOf f ≡ kindOf f′ → ⊥
 unfolding kindOf direct
 inner-apart (up-t e) d s = omega arith
 inner-apart (up-l e) d s = omega arith

@@ -10,7 +10,7 @@ use native.Mathlib.Omega.{arith}
 use lib.IntN.{ℤ, pos, natAbs}
 use lib.ListN.{getD, length}
 use lib.Pow.{pow-mono}
-use Rattle.cell.specs.Cell.{Frame, up, down, span, Place, frame, place, Occurs, row, col, cells}
+use Rattle.cell.specs.Cell.{Triangle, up, down, span, Place, triangle, place, Occurs, row, col, cells}
 use Rattle.cell.proofs.Laws.{place-occurs}
 use Rattle.corner.specs.Corner.{Point, norm, corners, coordinate}
 use Rattle.corner.proofs.Octants.{octant-cases}
@@ -99,26 +99,26 @@ cube-ways l r t =
     octant-cases (sideOf false) (sideOf true) l r (λ i s. upWays (s .0 .base) (s .1 .base) t ≡ upWays l r t)
     refl (turn-ways r l t) refl (turn-ways r l t)
 
--- by the frame: L, R, T of an up cell
-frameWays : ℕ → Frame → ℕ
-frameWays k (up a b) = upWays (2 ^ k - (a + b + 1)) b a
-frameWays k (down a b) = 12
+-- by the triangle: L, R, T of an up cell
+triangleWays : ℕ → Triangle → ℕ
+triangleWays k (up a b) = upWays (2 ^ k - (a + b + 1)) b a
+triangleWays k (down a b) = 12
 
-place-ways : (k : ℕ) (p : Place) → Occurs k p → passes (touchingWay (2 ^ k - sum (cubeOf k p)) (cubeOf k p)) 27 ≡ frameWays k (p .1)
-unfolding frameWays cubeOf leftOver row col room span
+place-ways : (k : ℕ) (p : Place) → Occurs k p → passes (touchingWay (2 ^ k - sum (cubeOf k p)) (cubeOf k p)) 27 ≡ triangleWays k (p .1)
+unfolding triangleWays cubeOf leftOver row col room span
 place-ways k p h = rw (room-is k p h) (go (p .1))
   where
-    go : (f : Frame) → passes (touchingWay (room f) (cubeOf k (p .0, f))) 27 ≡ frameWays k f
+    go : (f : Triangle) → passes (touchingWay (room f) (cubeOf k (p .0, f))) 27 ≡ triangleWays k f
     go (up a b) = up-ways (cubeOf k (p .0, up a b)) ∙ cube-ways (2 ^ k - (a + b + 1)) b a (p .0)
     go (down a b) = down-ways (cubeOf k (p .0, down a b))
 
-touching-frame : (k n : ℕ) → n < cells k → length (touching k n) ≡ frameWays k (place k n .1)
-touching-frame k n h = touching-ways k n h ∙ place-ways k (place k n) (place-occurs k n h)
+touching-triangle : (k n : ℕ) → n < cells k → length (touching k n) ≡ triangleWays k (place k n .1)
+touching-triangle k n h = touching-ways k n h ∙ place-ways k (place k n) (place-occurs k n h)
 
 -- at level 0 six cells touch each cell
 pub touching-6 : (n : ℕ) → n < cells 0 → length (touching 0 n) ≡ 6
-unfolding frameWays upWays place frame
-touching-6 n h = touching-frame 0 n h
+unfolding triangleWays upWays place triangle
+touching-6 n h = touching-triangle 0 n h
 
 -- above it ten touch an octant's corner cells: two of L, R, T are 0, and the third is not
 ten-ways : (l r t : ℕ) → 1 ≤ l + r + t → min (r + t) (min (l + t) (l + r)) ≡ 0 → upWays l r t ≡ 10
@@ -132,13 +132,13 @@ ten-ways (suc l) zero (suc t) h w = absurd (omega arith)
 ten-ways zero (suc r) (suc t) h w = absurd (omega arith)
 
 pub touching-10 : (k n : ℕ) → 1 ≤ k → n < cells k → CornerCell k (place k n) → length (touching k n) ≡ 10
-unfolding CornerCell frameWays
-touching-10 k n one h q = touching-frame k n h ∙ go q
+unfolding CornerCell triangleWays
+touching-10 k n one h q = touching-triangle k n h ∙ go q
   where
     two : 2 ≤ 2 ^ k
     two = pow-mono {i = 1} {j = k} one
 
-    go : CornerCell k (place k n) → frameWays k (place k n .1) ≡ 10
+    go : CornerCell k (place k n) → triangleWays k (place k n .1) ≡ 10
     go (inl e) = rw e (ten-ways _ _ _ (omega (arith, two)) (omega (arith, two)))
     go (inr (inl e)) = rw e (ten-ways _ _ _ (omega (arith, two)) (omega (arith, two)))
     go (inr (inr e)) = rw e (ten-ways _ _ _ (omega (arith, two)) (omega (arith, two)))
@@ -156,10 +156,10 @@ twelve-ways zero (suc r) (suc t) x y z = refl
 twelve-ways (suc l) (suc r) (suc t) x y z = refl
 
 pub touching-12 : (k n : ℕ) → n < cells k → (CornerCell k (place k n) → ⊥) → length (touching k n) ≡ 12
-unfolding CornerCell frameWays span
-touching-12 k n h q = touching-frame k n h ∙ go (place k n .1) (place-occurs k n h .1) q
+unfolding CornerCell triangleWays span
+touching-12 k n h q = touching-triangle k n h ∙ go (place k n .1) (place-occurs k n h .1) q
   where
-    go : (f : Frame) → span f ≤ 2 ^ k → (CornerCell k (0, f) → ⊥) → frameWays k f ≡ 12
+    go : (f : Triangle) → span f ≤ 2 ^ k → (CornerCell k (0, f) → ⊥) → triangleWays k f ≡ 12
     go (up a b) s n = twelve-ways (2 ^ k - (a + b + 1)) b a
         (λ y z. n (inl (ap₂ up z y)))
         (λ x z. n (inr (inl (ap₂ up z (omega arith)))))

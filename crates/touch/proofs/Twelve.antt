@@ -12,7 +12,7 @@ use lib.Pow.{pow-mono}
 use Rattle.refusal.proofs.Tests.{parts, cases}
 use Rattle.cell.specs.declared.Kind.{Kind}
 use Rattle.cell.specs.declared.Kind.the-variants.{Up, Down}
-use Rattle.cell.specs.Cell.{Frame, Place, Occurs, span, row, col, frameOf, number, maxLevel}
+use Rattle.cell.specs.Cell.{Triangle, Place, Occurs, span, row, col, triangleOf, number, maxLevel}
 use Rattle.cell.proofs.Laws.{digit-cases}
 use Rattle.corner.specs.Corner.{quarters, equatorial}
 use Rattle.touch.specs.declared.cube.Side.{Side}
@@ -139,11 +139,11 @@ module _ (l r w : ℕ) (hl : 1 ≤ l) (hr : 1 ≤ r) (hw : w < 27) where
       (rw (q .x) (toR false), rw (q .y) (toL true))
       (o % 4) (omega arith)
 
--- what a way of the right sum makes of a frame that lies away from the edges
-record Stepped (t : Kind) (a b w : ℕ) (f : Frame) : Type 0 where
+-- what a way of the right sum makes of a triangle that lies away from the edges
+record Stepped (t : Kind) (a b w : ℕ) (f : Triangle) : Type 0 where
   rows : row f ≡ a + w / 9 - 1
   cols : col f ≡ b + w / 3 % 3 - 1
-  spans : span f + w % 3 ≡ span (frameOf t a b) + 1
+  spans : span f + w % 3 ≡ span (triangleOf t a b) + 1
 
 stepped-laws :
     (t : Kind) (a b w : ℕ) → 1 ≤ a → 1 ≤ b → (steps w ≡ 3) ⊎ (steps w ≡ turning t) → Stepped t a b w (stepped w t a b)
@@ -152,7 +152,7 @@ stepped-laws t a b w ha hb s = go t s (eqb (w % 3 + w / 3 % 3 + w / 9) 3) refl
   where
     go :
         (t : Kind) → (steps w ≡ 3) ⊎ (steps w ≡ turning t) → (e : Bool) → eqb (w % 3 + w / 3 % 3 + w / 9) 3 ≡ e
-        → Stepped t a b w (frameOf (cond e t (other t)) (a + w / 9 - 1) (b + w / 3 % 3 - 1))
+        → Stepped t a b w (triangleOf (cond e t (other t)) (a + w / 9 - 1) (b + w / 3 % 3 - 1))
     go Up s true e = record { rows = refl; cols = refl; spans = omega (arith, eqb-true (w % 3 + w / 3 % 3 + w / 9) 3 e) }
     go Down s true e = record { rows = refl; cols = refl; spans = omega (arith, eqb-true (w % 3 + w / 3 % 3 + w / 9) 3 e) }
     go Up (inl d) false e = absurd (eqb-false (w % 3 + w / 3 % 3 + w / 9) 3 e d)
@@ -162,17 +162,17 @@ stepped-laws t a b w ha hb s = go t s (eqb (w % 3 + w / 3 % 3 + w / 9) 3) refl
 
 -- ---- a cell away from the edges
 
-room-kind : (t : Kind) (a b : ℕ) → room (frameOf t a b) ≡ kindRoom t
+room-kind : (t : Kind) (a b : ℕ) → room (triangleOf t a b) ≡ kindRoom t
 unfolding room
 room-kind Up a b = refl
 room-kind Down a b = refl
 
-pub record Inner (k : ℕ) (f : Frame) : Type 0 where
+pub record Inner (k : ℕ) (f : Triangle) : Type 0 where
   pub rows : 1 ≤ row f
   pub cols : 1 ≤ col f
   pub lefts : 1 ≤ leftOver k f
 
-pub inner-told : (k : ℕ) (f : Frame) → isInner k f ≡ true → Inner k f
+pub inner-told : (k : ℕ) (f : Triangle) → isInner k f ≡ true → Inner k f
 unfolding isInner leftOver
 inner-told k f e =
     let a = parts (ltb 0 (row f) && ltb 0 (col f)) (leb (row f + col f + 3) (2 ^ k)) e in
@@ -183,29 +183,29 @@ inner-told k f e =
       lefts = omega (arith, leb-true (row f + col f + 3) (2 ^ k) (a .1), span-is f, room-small f);
     }
 
-module _ (k o a b : ℕ) (t : Kind) (h : Occurs k (o, frameOf t a b)) (e : isInner k (frameOf t a b) ≡ true) where
-  inside : (1 ≤ a) × (1 ≤ b) × (1 ≤ leftOver k (frameOf t a b))
+module _ (k o a b : ℕ) (t : Kind) (h : Occurs k (o, triangleOf t a b)) (e : isInner k (triangleOf t a b) ≡ true) where
+  inside : (1 ≤ a) × (1 ≤ b) × (1 ≤ leftOver k (triangleOf t a b))
   inside =
-      let i = inner-told k (frameOf t a b) e in
+      let i = inner-told k (triangleOf t a b) e in
       (rw (row-of t a b) at (i .rows), rw (col-of t a b) at (i .cols), i .lefts)
 
   -- row and column leave room for a step either way
   pub room-to-step : k ≤ maxLevel → (1 ≤ a) × (1 ≤ b) × (a < 2 ^ 31) × (b < 2 ^ 31)
   room-to-step l =
-      let s = span-is (frameOf t a b) in
+      let s = span-is (triangleOf t a b) in
       let f = pow-mono {i = k} {j = maxLevel} l in
       (inside .0, inside .1, omega (arith, h .1, row-of t a b), omega (arith, h .1, col-of t a b))
 
-  -- one way on is the cube of the stepped frame
+  -- one way on is the cube of the stepped triangle
   module _ (w : ℕ) (hw : w < 27) (s : (steps w ≡ 3) ⊎ (steps w ≡ turning t)) where
-    next : Frame
+    next : Triangle
     next = stepped w t a b
 
     laws : Stepped t a b w next
     unfolding next
     laws = stepped-laws t a b w (inside .0) (inside .1) s
 
-    left-moved : leftOver k next ≡ leftOver k (frameOf t a b) + w % 3 - 1
+    left-moved : leftOver k next ≡ leftOver k (triangleOf t a b) + w % 3 - 1
     unfolding leftOver
     left-moved = omega (arith, laws .spans, inside .2, h .1)
 
@@ -213,10 +213,10 @@ module _ (k o a b : ℕ) (t : Kind) (h : Occurs k (o, frameOf t a b)) (e : isInn
     unfolding leftOver
     next-occurs = (h .0, omega (arith, laws .spans, inside .2, h .1))
 
-    cube-moved : movedCube (seen (odd (o % 4)) w) (cubeOf k (o, frameOf t a b)) ≡ cubeOf k (o, next)
+    cube-moved : movedCube (seen (odd (o % 4)) w) (cubeOf k (o, triangleOf t a b)) ≡ cubeOf k (o, next)
     unfolding movedCube cubeOf Turned
     cube-moved =
-        let l = leftOver k (frameOf t a b) in
+        let l = leftOver k (triangleOf t a b) in
         let v = seen (odd (o % 4)) w in
         let q = sides-moved l b w (inside .2) (inside .1) hw o in
         let from = ap (equatorialSides o l) (col-of t a b) in
@@ -228,25 +228,25 @@ module _ (k o a b : ℕ) (t : Kind) (h : Occurs k (o, frameOf t a b)) (e : isInn
         ∙ ap (sideOf (leb 4 o)) (sym (laws .rows)) in
         λ i. record { x = x i; y = y i; z = z i }
 
-    place-moved : placeOfCube k (movedCube (seen (odd (o % 4)) w) (cubeOf k (o, frameOf t a b))) ≡ (o, next)
+    place-moved : placeOfCube k (movedCube (seen (odd (o % 4)) w) (cubeOf k (o, triangleOf t a b))) ≡ (o, next)
     place-moved = ap (placeOfCube k) cube-moved ∙ place-cube k (o, next) next-occurs
 
   -- the cube, and whether L and the column change places
   cube : Cube
-  cube = cubeOf k (o, frameOf t a b)
+  cube = cubeOf k (o, triangleOf t a b)
 
   turned : Bool
   turned = odd (o % 4)
 
   sums : sum cube + kindRoom t ≡ 2 ^ k
   unfolding cube
-  sums = omega (arith, sum-cube k (o, frameOf t a b) h, room-kind t a b)
+  sums = omega (arith, sum-cube k (o, triangleOf t a b) h, room-kind t a b)
 
   tests : both-tests t turned cube ≡ true
   unfolding cube cubeOf
   tests =
-      let g = octant-cases (sideOf false) (sideOf true) (leftOver k (frameOf t a b)) (col (frameOf t a b)) (λ i s. (1 ≤ s .0 .base) × (1 ≤ s .1 .base)) in
-      let i = inner-told k (frameOf t a b) e in
+      let g = octant-cases (sideOf false) (sideOf true) (leftOver k (triangleOf t a b)) (col (triangleOf t a b)) (λ i s. (1 ≤ s .0 .base) × (1 ≤ s .1 .base)) in
+      let i = inner-told k (triangleOf t a b) e in
       let b = g (i .lefts, i .cols) (i .cols, i .lefts) (i .lefts, i .cols) (i .cols, i .lefts) o in
       passed t turned cube (b .0) (b .1) (i .rows)
 
@@ -255,7 +255,7 @@ module _ (k o a b : ℕ) (t : Kind) (h : Occurs k (o, frameOf t a b)) (e : isInn
     pub step-low : innerWay t i < 27
     pub low : wayOf t (odd (o % 4)) i < 27
     pub occurs : Occurs k (o, stepped (innerWay t i) t a b)
-    pub cell : cellAlong k (cubeOf k (o, frameOf t a b)) (wayOf t (odd (o % 4)) i) ≡ some (number k (o, stepped (innerWay t i) t a b))
+    pub cell : cellAlong k (cubeOf k (o, triangleOf t a b)) (wayOf t (odd (o % 4)) i) ≡ some (number k (o, stepped (innerWay t i) t a b))
     pub index : indexOf t (odd (o % 4)) (wayOf t (odd (o % 4)) i) ≡ i
 
   pub found-along : (i : ℕ) → i < 12 → Found i
@@ -279,7 +279,7 @@ module _ (k o a b : ℕ) (t : Kind) (h : Occurs k (o, frameOf t a b)) (e : isInn
 
   -- and each accepted way is that of one of the twelve
   pub way-listed :
-      (v : ℕ) → v < 27 → touchingWay (2 ^ k - sum (cubeOf k (o, frameOf t a b))) (cubeOf k (o, frameOf t a b)) v ≡ true
+      (v : ℕ) → v < 27 → touchingWay (2 ^ k - sum (cubeOf k (o, triangleOf t a b))) (cubeOf k (o, triangleOf t a b)) v ≡ true
       → (i : ℕ) × (i < 12) × (wayOf t (odd (o % 4)) i ≡ v)
   unfolding both-tests listed turned cube
   way-listed v hv q =

@@ -6,9 +6,9 @@ use native.Mathlib.Omega.{arith}
 use lib.IntN.{ℤ, pos}
 use lib.ListN.{getD}
 use mathlib.Core.Bool.{false, true}
-use Rattle.cell.specs.Cell.{Frame, up, down, span, Place, Occurs, row, col}
+use Rattle.cell.specs.Cell.{Triangle, up, down, span, Place, Occurs, row, col}
 use Rattle.cell.proofs.Laws.{digit-cases}
-use Rattle.corner.specs.Corner.{Point, minus, equatorial, polar, pointIn, corner, frameCorners, corners, quarters}
+use Rattle.corner.specs.Corner.{Point, minus, equatorial, polar, pointIn, corner, triangleCorners, corners, quarters}
 use Rattle.corner.proofs.Common.{three, index-cases}
 use Rattle.touch.specs.declared.cube.Side.{Side}
 use Rattle.touch.specs.declared.cube.Cube.{Cube}
@@ -77,8 +77,8 @@ record BeyondBases (k : ℕ) (p : Place) (x : Point) : Type 0 where
 pub point-is : (o : ℕ) {l l′ r r′ t t′ : ℕ} → l ≡ l′ → r ≡ r′ → t ≡ t′ → pointIn o l r t ≡ pointIn o l′ r′ t′
 point-is o a b c i = pointIn o (a i) (b i) (c i)
 
-beyond-bases : (k o : ℕ) (f : Frame) → span f ≤ 2 ^ k → (i : ℕ) → i < 3 → BeyondBases k (o, f) (getD (frameCorners k o f) i [])
-unfolding frameCorners corner span leftOver row col room
+beyond-bases : (k o : ℕ) (f : Triangle) → span f ≤ 2 ^ k → (i : ℕ) → i < 3 → BeyondBases k (o, f) (getD (triangleCorners k o f) i [])
+unfolding triangleCorners corner span leftOver row col room
 beyond-bases k o (up a b) h = index-cases _
     (record { u = 1; v = 0; w = 0; small = omega arith; total = refl; is = point-is o (omega arith) (omega arith) (omega arith) })
     (record { u = 0; v = 0; w = 1; small = omega arith; total = refl; is = point-is o (omega arith) (omega arith) (omega arith) })
@@ -90,12 +90,12 @@ beyond-bases k o (down a b) h = index-cases _
 
 -- which of the three corners a point beyond the bases is
 which-corner :
-    (k o : ℕ) (f : Frame)
+    (k o : ℕ) (f : Triangle)
     → span f ≤ 2 ^ k
     → (u v w : ℕ)
     → u ≤ 1 → v ≤ 1 → w ≤ 1 → u + v + w ≡ room f
-    → (i : ℕ) × (i < 3) × (getD (frameCorners k o f) i [] ≡ pointIn o (leftOver k f + u) (col f + v) (row f + w))
-unfolding frameCorners corner span leftOver row col room
+    → (i : ℕ) × (i < 3) × (getD (triangleCorners k o f) i [] ≡ pointIn o (leftOver k f + u) (col f + v) (row f + w))
+unfolding triangleCorners corner span leftOver row col room
 which-corner k o (up a b) h zero zero zero hu hv hw e = absurd (omega arith)
 which-corner k o (up a b) h (suc u) zero zero hu hv hw e = (0, omega arith, point-is o (omega arith) (omega arith) (omega arith))
 which-corner k o (up a b) h zero zero (suc w) hu hv hw e = (1, omega arith, point-is o (omega arith) (omega arith) (omega arith))

@@ -2,7 +2,7 @@
 ghost use mathlib.Core.Path.{_≡_};
 ghost use mathlib.Core.Bool.{cond};
 ghost use Prim.Native.Nat.{_+_, _-_, _^_, _<_, _≤_};
-ghost use Rattle.cell.specs.Cell.{Occurs, span, frameOf, placeOf, number, maxLevel};
+ghost use Rattle.cell.specs.Cell.{Occurs, span, triangleOf, placeOf, number, maxLevel};
 ghost use Rattle.touch.specs.inside.Cube.{sum, equatorialSides, cubeOf, northernOctant, column, placeIn};
 use cell::CellNumber;
 use cell::Kind;
@@ -48,8 +48,8 @@ fn first_side(octant: u32, l: u32, r: u32) -> Side
 
 // The base on the axis of L: what row, column and kind leave of n rows.
 fn left_over(n: u32, kind: Kind, row: u32, col: u32) -> u32
-    requires { ⌜ span (frameOf kind row col) ≤ n ⌝ }
-    ensures { λ l. ⌜ l ≡ n - span (frameOf kind row col) ⌝ }
+    requires { ⌜ span (triangleOf kind row col) ≤ n ⌝ }
+    ensures { λ l. ⌜ l ≡ n - span (triangleOf kind row col) ⌝ }
 {
     match kind {
         Kind::Up => n - row - col - 1,

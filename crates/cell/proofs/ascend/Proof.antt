@@ -7,7 +7,7 @@ use borrow.Author.Needs.{needs}
 use lib.Bits.{or-shifted, xor-lt, and-lt, or-lt}
 use lib.Pow.{pow-pos, pow-mono, ones-lt, shl-exact}
 use Rattle.cell.specs.Cell.{placeOf, span, digits, number, maxLevel}
-use Rattle.cell.proofs.Laws.{shifted, shift-four, frame-bounds, digits-below}
+use Rattle.cell.proofs.Laws.{shifted, shift-four, triangle-bounds, digits-below}
 use Rattle.cell.proofs.DigitBits.{digits-bits-16}
 use Rattle.cell.proofs.ascend.Statement.{statement}
 use Rattle.cell.proofs.ascend.Tie as tie
@@ -40,14 +40,14 @@ sub-crossed : tie.Need-sub-crossed
 sub-crossed c =
     let p = c .before .before .before .args .place in
     let s = span (placeOf p .1) in
-    rw (c .span-of .ensures) (omega (arith, frame-bounds (p .kind) (p .row) (p .col) s (le-refl s)))
+    rw (c .span-of .ensures) (omega (arith, triangle-bounds (p .kind) (p .row) (p .col) s (le-refl s)))
 
 small : (c : tie.After-span-of) → Small c
 small c =
     let k = c .before .before .before .args .level in
     let p = c .before .before .before .args .place in
     let s = c .before .before .before .pre .1 .1 in
-    let b = frame-bounds (p .kind) (p .row) (p .col) (2 ^ k) s in
+    let b = triangle-bounds (p .kind) (p .row) (p .col) (2 ^ k) s in
     let m : 2 ^ k ≤ 2 ^ maxLevel = pow-mono {i = k} {j = maxLevel} (omega arith) in
     record {
       all = rw (shifted 64 k (omega arith)) (omega (arith, ones-lt k));

@@ -1,4 +1,4 @@
--- `descend` meets its contract: its bits are those of the frame that the digits lead to. Assumes nothing.
+-- `descend` meets its contract: its bits are those of the triangle that the digits lead to. Assumes nothing.
 use Prim.Native.Nat.{ℕ, _*_, _-_, _/_, _%_, _^_, _≤_, _<_}
 use mathlib.Core.Path.{_≡_, sym, ap, _∙_}
 use native.Mathlib.Nat.{mod-lt}
@@ -6,9 +6,9 @@ use native.Mathlib.Omega.{arith}
 use borrow.Author.Needs.{needs}
 use lib.Bits.{bitOr, bitXor, xor-lt, and-lt, or-lt}
 use lib.Pow.{pow-pos, ones-lt}
-use Rattle.cell.specs.Cell.{Frame, place, maxLevel}
+use Rattle.cell.specs.Cell.{Triangle, place, maxLevel}
 use Rattle.cell.proofs.Laws.{shifted, shift-four}
-use Rattle.cell.proofs.FrameBits.{kindAt, frame-bits-16}
+use Rattle.cell.proofs.TriangleBits.{kindAt, triangle-bits-16}
 use Rattle.cell.proofs.descend.Statement.{statement}
 use Rattle.cell.proofs.descend.Tie as tie
 
@@ -73,7 +73,7 @@ led c =
     let l = s .split .ensures .1 in
     let x = bounds (s .split .result .high) (s .split .result .low) k (s .before .pre) in
     let d = c .odd-from .ensures k (omega arith) (search (xor-lt k, and-lt k, or-lt k)) in
-    rw (shift-four k, d, e, h, l) (ap (λ (g : Frame). (n / 4 ^ k, g)) (frame-bits-16 k n (omega arith)))
+    rw (shift-four k, d, e, h, l) (ap (λ (g : Triangle). (n / 4 ^ k, g)) (triangle-bits-16 k n (omega arith)))
 
 returns : tie.Need-returns
 returns c = c .up .ensures ∙ sym (rw (c .before .if1 .taken) at (led (c .before .before)))

@@ -12,7 +12,7 @@ use Rattle.refusal.specs.Tests.{badLevel}
 use Rattle.refusal.proofs.Answers.{Passed, gives}
 use Rattle.cell.specs.Cell.{saidNumber, numberCall, maxLevel}
 use Rattle.cell.proofs.Answers.{given-number}
-use Rattle.position.specs.Position.{q, fromWest, octant, offset, frameAt, placeAt, badLatitude, badLongitude, cellCall}
+use Rattle.position.specs.Position.{q, fromWest, octant, offset, triangleAt, placeAt, badLatitude, badLongitude, cellCall}
 use Rattle.position.proofs.Laws.{place-at-occurs}
 use Rattle.position.proofs.cell_at.Statement.{statement}
 use Rattle.position.proofs.cell_at.Tie as tie
@@ -73,7 +73,7 @@ enum-known-answer-2 : tie.Need-enum-known-answer-2
 enum-known-answer-2 c = search needs
 
 -- the place of a position, by its octant, its distance from the equator and its longitude counted from the west
-position : (k : ℕ) (y x : ℤ) (o p w : ℕ) → o ≡ octant y x → p ≡ natAbs y → w ≡ fromWest x → (o, frameAt k p (w % q)) ≡ placeAt k y x
+position : (k : ℕ) (y x : ℤ) (o p w : ℕ) → o ≡ octant y x → p ≡ natAbs y → w ≡ fromWest x → (o, triangleAt k p (w % q)) ≡ placeAt k y x
 unfolding placeAt offset
 position k y x o p w e f g = rw (e, f, g)
 

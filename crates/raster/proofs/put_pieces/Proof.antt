@@ -6,7 +6,7 @@ use native.Mathlib.Omega.{arith}
 use borrow.Author.Needs.{needs}
 use Rattle.bitset.specs.Bits.{marked}
 use Rattle.cell.specs.declared.Kind.the-variants.{Up, Down}
-use Rattle.cell.specs.Cell.{frameOf}
+use Rattle.cell.specs.Cell.{triangleOf}
 use Rattle.raster.specs.inside.Pieces.{pieceSize, pieceCount, earlier, Added}
 use Rattle.raster.proofs.Pieces.{added-none, added-more, added-same, earlier-none, earlier-all}
 use Rattle.raster.proofs.put_pieces.Statement.{statement}
@@ -15,8 +15,8 @@ use Rattle.raster.proofs.put_pieces.Tie as tie
 abbrev Inv-loop : tie.InvT-loop
 Inv-loop level mask up₀ down₀ count n₀ up down n =
     (n ≤ count)
-    × Added (frameOf Up) level (earlier (pieceSize level) n (marked mask)) up₀ up
-    × Added (frameOf Down) level (earlier (pieceSize level) n (marked mask)) down₀ down
+    × Added (triangleOf Up) level (earlier (pieceSize level) n (marked mask)) up₀ up
+    × Added (triangleOf Down) level (earlier (pieceSize level) n (marked mask)) down₀ down
 
 abbrev μ-loop : tie.MeasureT-loop
 μ-loop level mask up₀ down₀ count n₀ up down n = count - n

@@ -5,7 +5,7 @@ use mathlib.Core.Bool.{Bool, cond, _&&_, _||_}
 use mathlib.Core.List.{List}
 use lib.Dec.{ltb, eqb}
 use Rattle.bitset.specs.Bits.{marked}
-use Rattle.cell.specs.Cell.{Frame, cells}
+use Rattle.cell.specs.Cell.{Triangle, cells}
 use Rattle.rows.specs.Rows.{lit}
 use Rattle.raster.specs.Raster.{cellAt}
 
@@ -25,7 +25,7 @@ unfoldable pub earlier : ℕ → ℕ → (ℕ → Bool) → ℕ → Bool
 earlier size n A c = ltb (c / size) n && A c
 
 -- the spots of the cells of one kind that are in a set are set besides
-abbrev pub Added : (ℕ → ℕ → Frame) → ℕ → (ℕ → Bool) → List ℕ → List ℕ → Type 0
+abbrev pub Added : (ℕ → ℕ → Triangle) → ℕ → (ℕ → Bool) → List ℕ → List ℕ → Type 0
 Added kind k A before after = (i : ℕ) → lit after i ≡ (lit before i || cellAt kind k A i)
 
 -- the cells of a set are marked besides

@@ -6,7 +6,7 @@ use lib.Dec.{eqb}
 use Rattle.bitset.specs.Bits.{bit}
 use Rattle.cell.specs.declared.Kind.{Kind}
 use Rattle.cell.specs.declared.Kind.the-variants.{Up, Down}
-use Rattle.cell.specs.Cell.{Frame, up, down, row, col, child, frameOf}
+use Rattle.cell.specs.Cell.{Triangle, up, down, row, col, child, triangleOf}
 use Rattle.mask.specs.Reach.{anyBelow}
 
 -- whether bit i of the rows is set in one of the first n rows of a square, whose first row is byte `slot` of the rows: a row is 40 bytes
@@ -17,11 +17,11 @@ inSquare n slot square i = anyBelow n (λ x. eqb (i / 8) (slot + 40 * x) && bit 
 unfoldable pub quarterOf : ℕ → ℕ
 quarterOf p = 32 * (p / 32 % 2) + 16 * (p / 4 % 2) + 8 * (p / 16 % 2) + 4 * (p / 2 % 2) + 2 * (p / 8 % 2) + p % 2
 
--- where cell j of a block of a kind lies in the block's square: the frame that its three digits lead to
-unfoldable pub seat : Kind → ℕ → Frame
-seat t j = child (child (child (frameOf t 0 0) (j / 16)) (j / 4 % 4)) (j % 4)
+-- where cell j of a block of a kind lies in the block's square: the triangle that its three digits lead to
+unfoldable pub seat : Kind → ℕ → Triangle
+seat t j = child (child (child (triangleOf t 0 0) (j / 16)) (j / 4 % 4)) (j % 4)
 
-unfoldable pub kindOf : Frame → Kind
+unfoldable pub kindOf : Triangle → Kind
 kindOf (up a b) = Up
 kindOf (down a b) = Down
 
@@ -39,7 +39,7 @@ seatBit sq t j = bit (sq t (kindOf (seat t j))) (quarterOf (8 * row (seat t j) +
 -- the cells of a word are at their seats, and nothing else is
 pub record Spread (word : ℕ) (sq : Kind → Kind → ℕ) : Type 0 where
   pub at : (t : Kind) (j : ℕ) → j < 64 → seatBit sq t j ≡ bit word j
-  pub only : (t s : Kind) (p : ℕ) → p < 64 → bit (sq t s) (quarterOf p) ≡ true → (j : ℕ) × (j < 64) × (seat t j ≡ frameOf s (p / 8) (p % 8))
+  pub only : (t s : Kind) (p : ℕ) → p < 64 → bit (sq t s) (quarterOf p) ≡ true → (j : ℕ) × (j < 64) × (seat t j ≡ triangleOf s (p / 8) (p % 8))
 
 -- a word has a cell where its seat in an up block or that in a down block is set
 abbrev pub Gathered : (Kind → Kind → ℕ) → ℕ → Type 0

@@ -6,7 +6,7 @@ use mathlib.Core.List.{List}
 use mathlib.Core.Option.{Option, none, some}
 use lib.Dec.{leb, eqb}
 use lib.ListN.{set}
-use Rattle.cell.specs.Cell.{Frame, up, down, span, row, col, Place, number}
+use Rattle.cell.specs.Cell.{Triangle, up, down, span, row, col, Place, number}
 use Rattle.corner.specs.Corner.{equatorial}
 use Rattle.touch.specs.declared.cube.Side.{Side}
 use Rattle.touch.specs.declared.cube.Cube.{Cube}
@@ -21,7 +21,7 @@ abbrev pub sum : Cube → ℕ
 sum c = c .x .base + c .y .base + c .z .base
 
 -- the base on the axis of L: what row, column and kind leave of N
-unfoldable pub leftOver : ℕ → Frame → ℕ
+unfoldable pub leftOver : ℕ → Triangle → ℕ
 leftOver k f = 2 ^ k - span f
 
 -- the sides that octant o gives to L and R, as it gives points

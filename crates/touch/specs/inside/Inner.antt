@@ -8,10 +8,10 @@ use lib.ListN.{getD}
 use Rattle.cell.specs.declared.Kind.{Kind}
 use Rattle.cell.specs.declared.Kind.the-variants.{Up, Down}
 use Rattle.cell.specs.declared.Place as declared
-use Rattle.cell.specs.Cell.{Frame, row, col, frameOf, number}
+use Rattle.cell.specs.Cell.{Triangle, row, col, triangleOf, number}
 
 -- no base of the cell's cube is 0: of the base on the axis of L enough is left for either kind
-unfoldable pub isInner : ℕ → Frame → Bool
+unfoldable pub isInner : ℕ → Triangle → Bool
 isInner k f = ltb 0 (row f) && ltb 0 (col f) && leb (row f + col f + 3) (2 ^ k)
 
 -- the twelve ways, with the axes in the order of L, column and row
@@ -31,9 +31,9 @@ abbrev pub other : Kind → Kind
 other Up = Down
 other Down = Up
 
--- the frame one way on: the kind stays where the steps on the three axes add up to none
-unfoldable pub stepped : ℕ → Kind → ℕ → ℕ → Frame
-stepped w t a b = frameOf (cond (eqb (w % 3 + w / 3 % 3 + w / 9) 3) t (other t)) (a + w / 9 - 1) (b + w / 3 % 3 - 1)
+-- the triangle one way on: the kind stays where the steps on the three axes add up to none
+unfoldable pub stepped : ℕ → Kind → ℕ → ℕ → Triangle
+stepped w t a b = triangleOf (cond (eqb (w % 3 + w / 3 % 3 + w / 9) 3) t (other t)) (a + w / 9 - 1) (b + w / 3 % 3 - 1)
 
 -- touching cell i of the twelve
 unfoldable pub innerCell : ℕ → declared.Place → ℕ → ℕ

@@ -1,4 +1,4 @@
--- `centre_at` meets its contract: s is 1 for up and 2 for down, and a frame's span is a + b + s. Assumes nothing.
+-- `centre_at` meets its contract: s is 1 for up and 2 for down, and a triangle's span is a + b + s. Assumes nothing.
 use borrow.Author.Needs.{needs}
 use mathlib.Core.Path.{_∙_}
 use native.Mathlib.Omega.{arith}

@@ -4,7 +4,7 @@ use native.Mathlib.Omega.{arith}
 use lib.Pow.{pow-mono}
 use borrow.Author.Needs.{needs}
 use Rattle.cell.specs.Cell.{span, maxLevel}
-use Rattle.corner.specs.Corner.{frameCorners}
+use Rattle.corner.specs.Corner.{triangleCorners}
 use Rattle.corner.proofs.Common.{three}
 use Rattle.corner.proofs.corners.corners_of.Statement.{statement}
 use Rattle.corner.proofs.corners.corners_of.Tie as tie
@@ -68,13 +68,13 @@ corner-of-requires-6 : tie.Need-corner-of-requires-6
 corner-of-requires-6 c κs = omega (arith, down-inside (c .before .before))
 
 returns : tie.Need-returns
-unfolding frameCorners
+unfolding triangleCorners
 returns c =
     rw (c .before .before .before .enum-told .given .1)
     (three (c .before .before .corner-of .ensures) (c .before .corner-of2 .ensures) (c .corner-of3 .ensures))
 
 returns-2 : tie.Need-returns-2
-unfolding frameCorners
+unfolding triangleCorners
 returns-2 c =
     rw (c .before .before .before .enum-told2 .given .1)
     (three (c .before .before .corner-of4 .ensures) (c .before .corner-of5 .ensures) (c .corner-of6 .ensures))

@@ -9,7 +9,7 @@ use Rattle.refusal.proofs.Answers.{given≢refused}
 use Rattle.bitset.specs.Bits.{bit}
 use Rattle.cell.specs.declared.Kind.{Kind}
 use Rattle.cell.specs.declared.Kind.the-variants.{Up, Down}
-use Rattle.cell.specs.Cell.{placeOf, saidPlace, frameOf}
+use Rattle.cell.specs.Cell.{placeOf, saidPlace, triangleOf}
 use Rattle.cell.proofs.Answers.{Given, given-place, accepts}
 use Rattle.rows.specs.Rows.{lit}
 use Rattle.raster.specs.inside.Pieces.{piece, Added}
@@ -88,7 +88,7 @@ joined : (w : tie.After-spread) (t : Kind) → let n = w .before .before .before
     let x = w .spread .result in
     (s : Kind) (r : ℕ) → ((p : ℕ) → p < 64 → bit r p ≡ bit (squares (x .«up_in_up») (x .«down_in_up») (x .«up_in_down») (x .«down_in_down») t s) (quarterOf p)) →
     (q z : List ℕ) → ((i : ℕ) → lit z i ≡ (lit q i || inSquare 8 (w .before .slot-of .result) r i)) →
-    Added (frameOf s) (a .level) (piece 64 (a .block) (λ y. bit (a .word) (y % 64))) q z
+    Added (triangleOf s) (a .level) (piece 64 (a .block) (λ y. bit (a .word) (y % 64))) q z
 joined w t e =
     let k = w .before .slot-of in
     let n = w .before .before .before in

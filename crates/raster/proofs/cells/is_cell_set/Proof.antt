@@ -5,9 +5,9 @@ use borrow.Author.Needs.{needs}
 use Rattle.refusal.proofs.Answers.{given≢refused}
 use Rattle.cell.specs.declared.Kind.{Kind}
 use Rattle.cell.specs.declared.Kind.the-variants.{Up, Down}
-use Rattle.cell.specs.Cell.{placeOf, saidPlace, frameOf}
+use Rattle.cell.specs.Cell.{placeOf, saidPlace, triangleOf}
 use Rattle.cell.proofs.Answers.{Given, given-place, accepts}
-use Rattle.raster.specs.Raster.{frameLit, cellLit}
+use Rattle.raster.specs.Raster.{triangleLit, cellLit}
 use Rattle.raster.proofs.Held.{place-small, kind-told, cell-lit}
 use Rattle.raster.proofs.cells.is_cell_set.Statement.{statement}
 use Rattle.raster.proofs.cells.is_cell_set.Tie as tie
@@ -49,7 +49,7 @@ enum-told-3 c = search needs
 its-spot : (n : tie.After-place) (t : Kind) → n .place .given .0 .0 .kind ≡ t →
     let a = entry n .args in
     let p = n .place .given .0 .0 in
-    cellLit (a .level) (a .up .now) (a .down .now) (a .cell) ≡ frameLit (a .up .now) (a .down .now) (p .octant) (frameOf t (p .row) (p .col))
+    cellLit (a .level) (a .up .now) (a .down .now) (a .cell) ≡ triangleLit (a .up .now) (a .down .now) (p .octant) (triangleOf t (p .row) (p .col))
 its-spot n t e =
     let a = entry n .args in
     let p = n .place .given .0 .0 in
@@ -57,13 +57,13 @@ its-spot n t e =
     cell-lit (a .level) (a .cell) (p .octant) (p .row) (p .col) t (a .up .now) (a .down .now) g
 
 returns : tie.Need-returns
-unfolding frameLit
+unfolding triangleLit
 returns c =
     let s = c .before .before .before in
     c .is-set .ensures ∙ rw (s .spot-of .ensures .0) (sym (its-spot (s .before .before) Up (c .before .enum-told .given .1)))
 
 returns-2 : tie.Need-returns-2
-unfolding frameLit
+unfolding triangleLit
 returns-2 c =
     let s = c .before .before .before in
     c .is-set2 .ensures ∙ rw (s .spot-of .ensures .0) (sym (its-spot (s .before .before) Down (c .before .enum-told2 .given .1)))

@@ -9,7 +9,7 @@ use lib.Dec.{eqb}
 use Rattle.refusal.proofs.Answers.{given≢refused}
 use Rattle.cell.specs.declared.Kind.{Kind}
 use Rattle.cell.specs.declared.Kind.the-variants.{Up, Down}
-use Rattle.cell.specs.Cell.{placeOf, saidPlace, frameOf}
+use Rattle.cell.specs.Cell.{placeOf, saidPlace, triangleOf}
 use Rattle.cell.proofs.Answers.{Given, given-place, accepts}
 use Rattle.rows.specs.Rows.{lit, spot}
 use Rattle.raster.specs.inside.Pieces.{Added}
@@ -54,7 +54,7 @@ enum-told-3 c = search needs
 at-spot : (n : tie.After-place) (t : Kind) → n .place .given .0 .0 .kind ≡ t → (s : Kind) (q r : List ℕ) →
     let p = n .place .given .0 .0 in
     ((i : ℕ) → lit r i ≡ (lit q i || (sameKind s t && eqb i (spot (p .octant) (p .row) (p .col))))) →
-    Added (frameOf s) (entry n .args .level) (eqb (entry n .args .cell)) q r
+    Added (triangleOf s) (entry n .args .level) (eqb (entry n .args .cell)) q r
 at-spot n t e s q r f =
     let a = entry n .args in
     let p = n .place .given .0 .0 in

@@ -5,7 +5,7 @@ use mathlib.Core.Bool.{true, false}
 use native.Mathlib.Omega.{arith}
 use lib.Dec.{leb}
 use borrow.Author.Needs.{needs}
-use Rattle.cell.specs.Cell.{span, frameOf}
+use Rattle.cell.specs.Cell.{span, triangleOf}
 use Rattle.cell.proofs.Laws.{shifted}
 use Rattle.corner.proofs.Octants.{second-first}
 use Rattle.touch.specs.inside.Cube.{sideOf, leftOver, equatorialSides, cubeOf}
@@ -34,7 +34,7 @@ returns c =
     let h = c .before .before .before .pre in
     let k = c .before .before .before .args .level in
     let p = c .before .before .before .args .place in
-    let n = 2 ^ k - span (frameOf (p .kind) (p .row) (p .col)) in
+    let n = 2 ^ k - span (triangleOf (p .kind) (p .row) (p .col)) in
     let l = rw (shifted 32 k (omega (arith, h .0))) at (c .before .before .left-over .ensures) in
     let b = sym (col-of (p .kind) (p .row) (p .col)) in
     let x = (rw l at (c .before .first-side .ensures)) ∙ ap (λ (j : ℕ). equatorialSides (p .octant) n j .0) b in

@@ -3,7 +3,7 @@ use Prim.Native.Nat.{_+_, _^_, _≤_}
 use native.Mathlib.Omega.{arith}
 use borrow.Author.Tests.{lt-ltb}
 use lib.Pow.{pow-mono}
-use Rattle.cell.specs.Cell.{frameOf, maxLevel}
+use Rattle.cell.specs.Cell.{triangleOf, maxLevel}
 use Rattle.cell.proofs.Laws.{shifted}
 use Rattle.touch.specs.inside.Inner.{isInner}
 use Rattle.touch.proofs.Cubes.{span-is, row-of, col-of}
@@ -26,7 +26,7 @@ returns-2 c =
 small : (s : tie.Start) → s .args .place .row + s .args .place .col ≤ 2 ^ maxLevel
 small s =
     let p = s .args .place in
-    omega (arith, s .pre .1 .1, span-is (frameOf (p .kind) (p .row) (p .col)), row-of (p .kind) (p .row) (p .col), col-of (p .kind) (p .row) (p .col), pow-mono {i = s .args .level} {j = maxLevel} (s .pre .0))
+    omega (arith, s .pre .1 .1, span-is (triangleOf (p .kind) (p .row) (p .col)), row-of (p .kind) (p .row) (p .col), col-of (p .kind) (p .row) (p .col), pow-mono {i = s .args .level} {j = maxLevel} (s .pre .0))
 
 add-result : tie.Need-add-result
 add-result c = omega (arith, small (c .before .before))

@@ -1,4 +1,4 @@
--- The frame that a number's digits lead to, by the digits' high and low bits: one induction over the level, a digit at a time.
+-- The triangle that a number's digits lead to, by the digits' high and low bits: one induction over the level, a digit at a time.
 -- Assumes nothing.
 use Prim.Native.Nat.{ℕ, zero, suc, _+_, _*_, _-_, _/_, _%_, _^_, _≤_, _<_}
 use mathlib.Core.Path.{_≡_, refl, ap₂}
@@ -6,13 +6,13 @@ use native.Mathlib.Nat.{pow-suc}
 use native.Mathlib.Omega.{arith}
 use lib.Pow.{pow-pos}
 use lib.Bits.{bitOr, bitXor, or-block, xor-block, xor-lt, or-lt}
-use Rattle.cell.specs.Cell.{Frame, up, down, children, child, frame}
+use Rattle.cell.specs.Cell.{Triangle, up, down, children, child, triangle}
 use Rattle.cell.specs.inside.Bits.{recode, evens, ones, oddFrom}
 use Rattle.cell.proofs.Runs.{evens-cut}
 use Rattle.cell.proofs.Laws.{bit-cases, digit-cases}
 
--- the frame of a kind, 0 for up and 1 for down
-abbrev pub kindAt : ℕ → ℕ → ℕ → Frame
+-- the triangle of a kind, 0 for up and 1 for down
+abbrev pub kindAt : ℕ → ℕ → ℕ → Triangle
 kindAt zero a b = up a b
 kindAt (suc t) a b = down a b
 
@@ -121,15 +121,15 @@ module _ (k n : ℕ) where
       rw (downs-more, all-more, high-more, low-more, xor-block 1 (all k) l 1 low (omega arith) low-small, or-block 1 h c high kind high-small kind-small)
       (xor-block 1 (bitXor (all k) l) (bitOr h c) (bitXor 1 low) (bitOr high kind) (xor-lt 1 1 low (omega arith) low-small) (or-lt 1 high kind high-small kind-small))
 
-no-bits : (n : ℕ) → frame 0 n ≡ kindAt (ones 0 (zeros 0 n) % 2) (rowBits 0 n) (colBits 0 n)
-unfolding frame recode oddFrom
+no-bits : (n : ℕ) → triangle 0 n ≡ kindAt (ones 0 (zeros 0 n) % 2) (rowBits 0 n) (colBits 0 n)
+unfolding triangle recode oddFrom
 no-bits n = refl
 
-frame-bits : (k n : ℕ) → frame k n ≡ kindAt (ones k (zeros k n) % 2) (rowBits k n) (colBits k n)
-unfolding frame
-frame-bits zero n = no-bits n
-frame-bits (suc k) n =
-    rw (frame-bits k (n / 4), kind-more k n, row-more k n, col-more k n)
+triangle-bits : (k n : ℕ) → triangle k n ≡ kindAt (ones k (zeros k n) % 2) (rowBits k n) (colBits k n)
+unfolding triangle
+triangle-bits zero n = no-bits n
+triangle-bits (suc k) n =
+    rw (triangle-bits k (n / 4), kind-more k n, row-more k n, col-more k n)
     (child-bits (rowBits k (n / 4)) (colBits k (n / 4)) (ones k (zeros k (n / 4)) % 2) (omega arith) (n % 4) (omega arith))
 
 -- so with 16 bits to each number, and the kinds as they are counted from above
@@ -138,9 +138,9 @@ unfolding recode oddFrom
 odd-lowest zero x = refl
 odd-lowest (suc k) x = omega arith
 
-pub frame-bits-16 : (k n : ℕ) → k ≤ 16 →
+pub triangle-bits-16 : (k n : ℕ) → k ≤ 16 →
     let h = evens 16 (n / 2) % 2 ^ k in
     let l = evens 16 n % 2 ^ k in
     let c = oddFrom k (bitXor (all k) (bitOr h l)) in
-    frame k n ≡ kindAt (c % 2) (bitXor (bitXor (all k) h) c) (bitXor (bitXor (all k) l) (bitOr h c))
-frame-bits-16 k n le = rw (evens-cut k 16 (n / 2) le, evens-cut k 16 n le, odd-lowest k (zeros k n)) (frame-bits k n)
+    triangle k n ≡ kindAt (c % 2) (bitXor (bitXor (all k) h) c) (bitXor (bitXor (all k) l) (bitOr h c))
+triangle-bits-16 k n le = rw (evens-cut k 16 (n / 2) le, evens-cut k 16 n le, odd-lowest k (zeros k n)) (triangle-bits k n)
