@@ -6,7 +6,7 @@ use mathlib.Core.Option.{Option}
 use lib.Dec.{leb, ltb, eqb}
 use lib.ListN.{length, drop, getD}
 use Rattle.refusal.specs.Answer.{Answer, given, refused, Test, _when_, inOrder, lending}
-use Rattle.refusal.specs.Tests.{badLevel}
+use Rattle.refusal.specs.Tests.{passes, badLevel}
 use Rattle.varint.specs.Varint.{readCall}
 use Rattle.cell.specs.Cell.{cells, maxLevel, badCell}
 use Rattle.step.specs.Step.{badStep, foundOr}
@@ -32,7 +32,7 @@ after (given (v, next)) = next
 after (refused n) = 0
 
 abbrev pub badNumber : Answer (ℕ × ℕ) → Test
-badNumber (given a) = 10 when false
+badNumber (given a) = passes
 badNumber (refused n) = n when true
 
 -- level, start cell and number of codes, as they stand in the bytes one after another
@@ -59,6 +59,10 @@ headerTests bs =
     ∷ badNumber (startRead bs) ∷ badCell (value (levelRead bs)) (value (startRead bs))
     ∷ badNumber (countRead bs) ∷ badCount (value (countRead bs)) ∷ []
 
+-- 12: pad bits are not zero. The bytes are one number, low byte first, and n codes are its lowest 3n bits: it has to be below 8^n
+abbrev pub badPadding : ℕ → List ℕ → Test
+badPadding n bs = 12 when leb (8 ^ n) (valueOf 256 bs)
+
 -- the cells of a border, by what its bytes begin with
 abbrev pub cellsOf : List ℕ → Header → Option (List ℕ)
 cellsOf bs (k, start, n, at) = walked k start (unpacked n (drop at bs))
@@ -67,7 +71,7 @@ cellsOf bs (k, start, n, at) = walked k start (unpacked n (drop at bs))
 abbrev pub codeTests : List ℕ → ℕ → Header → List Test
 codeTests bs room (k, start, n, at) =
     (10 when ltb (length bs) (at + codeBytes n))
-    ∷ (12 when ltb (at + codeBytes n) (length bs)) ∷ (12 when leb (8 ^ n) (valueOf 256 (drop at bs)))
+    ∷ (12 when ltb (at + codeBytes n) (length bs)) ∷ badPadding n (drop at bs)
     ∷ (5 when leb room n)
     ∷ badStep (cellsOf bs (k, start, n, at)) ∷ []
 

@@ -24,7 +24,7 @@ valueOf b (d ∷ ds) = d + b * valueOf b ds
 abbrev pub codeBytes : ℕ → ℕ
 codeBytes n = (3 * n + 7) / 8
 
--- codes are the digits of one number in base 8, the bytes its digits in base 256
+-- codes are the digits of one number in base 8, the bytes its digits in base 256, low digit first: codes 3 and 1 are 3 + 8 · 1 = 11, byte 0B
 abbrev pub packed : List ℕ → List ℕ
 packed codes = digitsOf 256 (codeBytes (length codes)) (valueOf 8 codes)
 

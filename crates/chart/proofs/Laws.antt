@@ -37,7 +37,7 @@ not-a-number = (refl, infinity)
 pub gap≢fresh : {A : Type 0} {t : Float} → gap ≡ fresh t → A
 gap≢fresh e = let z : _≡_ {A = ℕ} 0 1 = cc in absurd (omega arith)
 
-gap≢carried : {A : Type 0} {t : Float} {n : ℕ} → gap ≡ carried t n → A
+pub gap≢carried : {A : Type 0} {t : Float} {n : ℕ} → gap ≡ carried t n → A
 gap≢carried e = let z : _≡_ {A = ℕ} 0 1 = cc in absurd (omega arith)
 
 pub fresh≢carried : {A : Type 0} {t u : Float} {n : ℕ} → fresh t ≡ carried u n → A
@@ -94,7 +94,7 @@ reads-carried t age u d e =
     let same = r .4 in
     (same, omega arith, omega arith, r .3, ap inRange (sym (r .3)) ∙ r .1)
 
-carried-reads : (t : Float) (age : ℕ) (u : Float) (d : ℕ) → Carried t age u d → readingOf t age ≡ carried u d
+pub carried-reads : (t : Float) (age : ℕ) (u : Float) (d : ℕ) → Carried t age u d → readingOf t age ≡ carried u d
 unfolding readingOf
 carried-reads t age u d (a, m, n, e, i) = simp (a, e, i, le-ltb maxDays d n, ne-eqb d 0 (λ z. omega arith))
 

@@ -13,7 +13,7 @@ use Rattle.mask.specs.Mask.{maxMaskLevel, saidMask}
 use Rattle.mask.specs.declared.MaskAnswer.{MaskAnswer}
 use Rattle.mask.specs.declared.MaskAnswer.the-variants as mask-answer
 use Rattle.chart.specs.Chart.{maxDays}
-use Rattle.day.specs.Day.{Summary, dayTests, dayCall, summaryAfter, temperaturesAfter, agesAfter}
+use Rattle.day.specs.Day.{Summary, Slices, dayTests, dayCall, summaryAfter, temperaturesAfter, agesAfter}
 
 -- the slices and the day limit, as a day takes them
 pub record Ready (k d : ℕ) (new : List Float) (clouds : List ℕ) (temps : List Float) (ages : List ℕ) : Type 0 where
@@ -38,20 +38,24 @@ ready k d new clouds temps ages e =
       days = ltb-false maxDays d (t .1 .1 .1 .1 .1 .0);
     }
 
+abbrev pub slices : List Float → List ℕ → Slices
+slices temps ages = record { temperatures = temps; ages = ages }
+
 -- a call that its tests refuse leaves both slices
 pub day-refused : (k d : ℕ) (new : List Float) (clouds : List ℕ) (temps : List Float) (ages : List ℕ) (r : MaskAnswer) (n : ℕ) → r ≡ mask-answer.Refused n →
-    saidMask r ≡ inOrder (dayTests k d new clouds temps ages) done → (refused n, (temps, ages)) ≡ dayCall k d new clouds temps ages
+    saidMask r ≡ inOrder (dayTests k d new clouds temps ages) done → (refused n, slices temps ages) ≡ dayCall k d new clouds temps ages
 day-refused k d new clouds temps ages r n e h =
     let s = summaryAfter (cells k) d new clouds temps ages in
-    lent-refused _ (temps, ages) _ n (same-refusal (dayTests k d new clouds temps ages) [] done s n (sym (ap saidMask e) ∙ h))
+    lent-refused _ (slices temps ages) _ n (same-refusal (dayTests k d new clouds temps ages) [] done s n (sym (ap saidMask e) ∙ h))
 
 -- and any other writes them
 pub day-given : (k d : ℕ) (new : List Float) (clouds : List ℕ) (temps : List Float) (ages : List ℕ) (s : Summary) (temps′ : List Float) (ages′ : List ℕ) →
     given done ≡ inOrder (dayTests k d new clouds temps ages) done →
     s ≡ summaryAfter (cells k) d new clouds temps ages →
     temps′ ≡ temperaturesAfter (cells k) d new clouds temps ages → ages′ ≡ agesAfter (cells k) d new clouds temps ages →
-    (given s, (temps′, ages′)) ≡ dayCall k d new clouds temps ages
+    (given s, slices temps′ ages′) ≡ dayCall k d new clouds temps ages
 day-given k d new clouds temps ages s temps′ ages′ h p q r =
     let ts = dayTests k d new clouds temps ages in
     let g = gives ts (summaryAfter (cells k) d new clouds temps ages) (passed ts done done h .0) in
-    rw (p, q, r) (lent-given _ (temps, ages) (temperaturesAfter (cells k) d new clouds temps ages, agesAfter (cells k) d new clouds temps ages) _ g)
+    rw (p, q, r)
+    (lent-given _ (slices temps ages) (slices (temperaturesAfter (cells k) d new clouds temps ages) (agesAfter (cells k) d new clouds temps ages)) _ g)

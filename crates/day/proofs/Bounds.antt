@@ -10,7 +10,7 @@ use borrow.Author.Tests.{ne-eqb}
 use lib.Ieee as Ieee
 use lib.Ieee.{Float}
 use Rattle.chart.specs.Chart.{inRange, Reading, fresh, carried, gap, temperatureAt, ageAt}
-use Rattle.day.specs.Day.{Summary, none, withFresh, withCell, summaryOf, Foremost, Coldest, Warmest}
+use Rattle.day.specs.Day.{Summary, noneFresh, withFresh, withCell, summaryOf, Foremost, Coldest, Warmest}
 use Rattle.day.specs.Day.{temperaturesAfter, agesAfter, readsAfter, summaryAfter}
 use Rattle.chart.proofs.Laws.{gap≢fresh, fresh≢carried, fresh-same, reads-fresh}
 use Rattle.chart.proofs.Order.{Order, by-cold, by-warmth}
@@ -80,22 +80,22 @@ module _ (ahead notBehind : Float → Float → Bool) (order : Order ahead notBe
 module _ (reads : ℕ → Reading) (inside : (c : ℕ) (t : Float) → reads c ≡ fresh t → inRange t ≡ true) where
   -- there is no fresh cell, or the summary has the foremost both ways
   abbrev Summed : ℕ → Summary → Type 0
-  Summed n s = ((s ≡ none) × NoneFresh reads n) ⊎ ((1 ≤ s .0) × Coldest n (Reads reads) (s .1) × Warmest n (Reads reads) (s .2))
+  Summed n s = ((s ≡ noneFresh) × NoneFresh reads n) ⊎ ((1 ≤ s .count) × Coldest n (Reads reads) (s .coldest) × Warmest n (Reads reads) (s .warmest))
 
   fresh-summed : (n : ℕ) (s : Summary) (t : Float) → Summed n s → reads n ≡ fresh t → Summed (suc n) (withFresh s t)
   unfolding withFresh
-  fresh-summed n (m, lo, hi) t (inl (e, others)) f =
-      rw (ap (λ (s : Summary). s .0) e)
+  fresh-summed n s t (inl (e, others)) f =
+      rw (ap (λ (s : Summary). s .count) e)
       (inr (omega arith, first-one _ _ by-cold reads inside n t others f, first-one _ _ by-warmth reads inside n t others f))
-  fresh-summed n (m, lo, hi) t (inr (l, cold, warm)) f =
-      let colder = one-more _ _ by-cold reads inside n lo t (Ieee.lt t lo) refl cold f in
-      let warmer = one-more _ _ by-warmth reads inside n hi t (Ieee.lt hi t) refl warm f in
-      rw (ne-eqb m 0 (λ (z : m ≡ 0). omega arith)) (inr (omega arith, colder, warmer))
+  fresh-summed n s t (inr (l, cold, warm)) f =
+      let colder = one-more _ _ by-cold reads inside n (s .coldest) t (Ieee.lt t (s .coldest)) refl cold f in
+      let warmer = one-more _ _ by-warmth reads inside n (s .warmest) t (Ieee.lt (s .warmest) t) refl warm f in
+      rw (ne-eqb (s .count) 0 (λ (z : s .count ≡ 0). omega arith)) (inr (omega arith, colder, warmer))
 
   same-summed : (n : ℕ) (s : Summary) → Summed n s → ((t : Float) → reads n ≡ fresh t → ⊥) → Summed (suc n) s
   same-summed n s (inl (e, others)) other = inl (e, λ c l. below-more (λ (c : ℕ). (t : Float) → reads c ≡ fresh t → ⊥) n others other c (omega arith))
   same-summed n s (inr (l, cold, warm)) other =
-      inr (l, not-one _ _ by-cold reads inside n (s .1) cold other, not-one _ _ by-warmth reads inside n (s .2) warm other)
+      inr (l, not-one _ _ by-cold reads inside n (s .coldest) cold other, not-one _ _ by-warmth reads inside n (s .warmest) warm other)
 
   cell-summed : (n : ℕ) (s : Summary) (r : Reading) → reads n ≡ r → Summed n s → Summed (suc n) (withCell s r)
   unfolding withCell
@@ -109,19 +109,19 @@ module _ (reads : ℕ → Reading) (inside : (c : ℕ) (t : Float) → reads c �
   summed (suc n) = cell-summed n (summaryOf n reads) (reads n) refl (summed n)
 
   -- with a count above 0 coldest and warmest are what they say
-  pub extremes : (n : ℕ) → 1 ≤ summaryOf n reads .0 →
-      Coldest n (Reads reads) (summaryOf n reads .1) × Warmest n (Reads reads) (summaryOf n reads .2)
+  pub extremes : (n : ℕ) → 1 ≤ summaryOf n reads .count →
+      Coldest n (Reads reads) (summaryOf n reads .coldest) × Warmest n (Reads reads) (summaryOf n reads .warmest)
   extremes n h = go (summed n)
     where
-      go : Summed n (summaryOf n reads) → Coldest n (Reads reads) (summaryOf n reads .1) × Warmest n (Reads reads) (summaryOf n reads .2)
-      go (inl (e, others)) = absurd (omega (arith, ap (λ (s : Summary). s .0) e))
+      go : Summed n (summaryOf n reads) → Coldest n (Reads reads) (summaryOf n reads .coldest) × Warmest n (Reads reads) (summaryOf n reads .warmest)
+      go (inl (e, others)) = absurd (omega (arith, ap (λ (s : Summary). s .count) e))
       go (inr (l, cold, warm)) = (cold, warm)
 
   -- with a count of 0 they are 0.0 twice
-  pub no-extremes : (n : ℕ) → summaryOf n reads .0 ≡ 0 → summaryOf n reads ≡ none
+  pub no-extremes : (n : ℕ) → summaryOf n reads .count ≡ 0 → summaryOf n reads ≡ noneFresh
   no-extremes n h = go (summed n)
     where
-      go : Summed n (summaryOf n reads) → summaryOf n reads ≡ none
+      go : Summed n (summaryOf n reads) → summaryOf n reads ≡ noneFresh
       go (inl (e, others)) = e
       go (inr (l, cold, warm)) = absurd (omega arith)
 
@@ -135,17 +135,17 @@ module _ (n d : ℕ) (new : List Float) (clouds : List ℕ) (temps : List Float)
   fresh-inside c t e =
       reads-fresh (temperatureAt (temperaturesAfter n d new clouds temps ages) c) (ageAt (agesAfter n d new clouds temps ages) c) t e .2
 
-  pub coldest-after : 1 ≤ summaryAfter n d new clouds temps ages .0 →
-      Coldest n (λ c t. readsAfter n d new clouds temps ages c ≡ fresh t) (summaryAfter n d new clouds temps ages .1)
+  pub coldest-after : 1 ≤ summaryAfter n d new clouds temps ages .count →
+      Coldest n (λ c t. readsAfter n d new clouds temps ages c ≡ fresh t) (summaryAfter n d new clouds temps ages .coldest)
   unfolding summaryAfter
   coldest-after h = extremes after fresh-inside n h .0
 
-  pub warmest-after : 1 ≤ summaryAfter n d new clouds temps ages .0 →
-      Warmest n (λ c t. readsAfter n d new clouds temps ages c ≡ fresh t) (summaryAfter n d new clouds temps ages .2)
+  pub warmest-after : 1 ≤ summaryAfter n d new clouds temps ages .count →
+      Warmest n (λ c t. readsAfter n d new clouds temps ages c ≡ fresh t) (summaryAfter n d new clouds temps ages .warmest)
   unfolding summaryAfter
   warmest-after h = extremes after fresh-inside n h .1
 
   -- with none fresh, 0 and 0.0 twice
-  pub none-after : summaryAfter n d new clouds temps ages .0 ≡ 0 → summaryAfter n d new clouds temps ages ≡ none
+  pub none-after : summaryAfter n d new clouds temps ages .count ≡ 0 → summaryAfter n d new clouds temps ages ≡ noneFresh
   unfolding summaryAfter
   none-after h = no-extremes after fresh-inside n h

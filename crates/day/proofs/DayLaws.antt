@@ -3,16 +3,17 @@ use Prim.Native.Nat.{ℕ, _+_, _≤_, _<_}
 use mathlib.Core.Path.{_≡_, refl, sym, ap, ap₂, _∙_}
 use mathlib.Core.Bool.{Bool, true, false, _&&_, not}
 use mathlib.Core.List.{List}
-use mathlib.Core.Logic.{_↔_, _⊎_, inl, inr}
+use mathlib.Core.Logic.{_↔_, _⊎_, inl, inr, ⊎-elim}
 use native.Mathlib.Omega.{arith}
-use borrow.Author.Tests.{leb-true, lt-leb, not-true}
+use native.Mathlib.Nat.{le-trans}
+use borrow.Author.Tests.{leb-true, leb-false, le-leb, lt-leb, not-true}
 use lib.Dec.{leb}
 use lib.Ieee.{Float, nan}
-use Rattle.refusal.proofs.Tests.{parts}
+use Rattle.refusal.proofs.Tests.{clash, parts}
 use Rattle.bitset.specs.Bits.{marked, size}
 use Rattle.chart.specs.Chart.{inRange, fresh, carried, readingOf, temperatureAt, ageAt, gap, maxDays, Gap, readingAt}
-use Rattle.day.specs.Day.{nought, dayOf, dayAt, temperaturesAfter, agesAfter, readsAfter, isFresh, summaryAfter}
-use Rattle.chart.proofs.Laws.{reads-fresh, fresh-reads, reads-carried, gap-exactly}
+use Rattle.day.specs.Day.{nought, dayOf, dayAt, temperaturesAfter, agesAfter, readsAfter, isFresh, summaryAfter, NothingNew, CarriedOn, NotCarried}
+use Rattle.chart.proofs.Laws.{gap≢fresh, gap≢carried, reads-fresh, fresh-reads, reads-carried, carried-reads, gap-exactly}
 use Rattle.day.proofs.Days.{not-first, not-second, leaves, getD-listOf, count-fresh}
 
 reads-left : (n d : ℕ) (new : List Float) (clouds : List ℕ) (temps : List Float) (ages : List ℕ) (c : ℕ) → c < n →
@@ -30,9 +31,9 @@ left-fresh false true new old age t e = let z = reads-fresh old (age + 1) t e .0
 left-fresh false false new old age t e = let z = reads-fresh nought 255 t e .0 in absurd (omega arith)
 
 left-carried : (a b : Bool) (new old : Float) (age : ℕ) (t : Float) (m : ℕ) →
-    readingOf (leaves a b new old age .0) (leaves a b new old age .1) ≡ carried t m → (b ≡ true) × (m ≡ age + 1) × (t ≡ old)
+    readingOf (leaves a b new old age .0) (leaves a b new old age .1) ≡ carried t m → (a ≡ false) × (b ≡ true) × (m ≡ age + 1) × (t ≡ old)
 left-carried true b new old age t m e = let r = reads-carried new 0 t m e in absurd (omega (arith, r .0, r .1))
-left-carried false true new old age t m e = let r = reads-carried old (age + 1) t m e in (refl, sym (r .0), sym (r .3))
+left-carried false true new old age t m e = let r = reads-carried old (age + 1) t m e in (refl, refl, sym (r .0), sym (r .3))
 left-carried false false new old age t m e = let r = reads-carried nought 255 t m e in absurd (omega (arith, r .0, r .2))
 
 day-fresh : (covered : Bool) (new old : Float) (age d : ℕ) (t : Float) →
@@ -49,27 +50,82 @@ fresh-day : (covered : Bool) (new old : Float) (age d : ℕ) (t : Float) → (co
 unfolding dayOf
 fresh-day covered new old age d t (p, q, e) = rw (p, q) (fresh-reads new 0 t (refl, e, ap inRange (sym e) ∙ q))
 
-day-carried : (covered : Bool) (new old : Float) (age d : ℕ) (t : Float) (m : ℕ) →
-    readingOf (dayOf covered new old age d .0) (dayOf covered new old age d .1) ≡ carried t m → (m ≡ age + 1) × (m ≤ d) × (t ≡ old)
+-- what is neither taken nor carried is a gap, and nothing else is
+left-nothing : (a b : Bool) (new old : Float) (age : ℕ) → (a ≡ true → inRange new ≡ true) → (b ≡ true → (age + 1 ≤ maxDays) × (inRange old ≡ true)) →
+    readingOf (leaves a b new old age .0) (leaves a b new old age .1) ≡ gap → (a ≡ false) × (b ≡ false)
+left-nothing true b new old age f g e = gap≢fresh (sym e ∙ fresh-reads new 0 new (refl, refl, f refl))
+left-nothing false true new old age f g e =
+    gap≢carried (sym e ∙ carried-reads old (age + 1) old (age + 1) (refl, omega arith, g refl .0, refl, g refl .1))
+left-nothing false false new old age f g e = (refl, refl)
+
+-- one of two tests fails where they don't hold together
+one-fails : (x y : Bool) → (x && y) ≡ false → (x ≡ false) ⊎ (y ≡ false)
+one-fails true y e = inr e
+one-fails false y e = inl refl
+
+-- nothing new, by the test of `dayOf`
+nothing-new : (covered inside : Bool) → ((covered ≡ true) ⊎ (inside ≡ false)) ↔ ((not covered && inside) ≡ false)
+nothing-new true inside = ((λ _. refl), (λ _. inl refl))
+nothing-new false inside = ((λ w. ⊎-elim (λ (e : false ≡ true). clash e refl) (λ (e : inside ≡ false). e) w), (λ e. inr e))
+
+-- and what can't be carried, by its test
+not-carried : (old : Float) (age d : ℕ) → ((d < age + 1) ⊎ (inRange old ≡ false)) ↔ ((leb (age + 1) d && inRange old) ≡ false)
+not-carried old age d = (
+  (λ w. ⊎-elim
+      (λ (h : d < age + 1). not-first (leb (age + 1) d) (inRange old) (lt-leb (age + 1) d h))
+      (λ (h : inRange old ≡ false). not-second (leb (age + 1) d) (inRange old) h)
+      w),
+  (λ e. ⊎-elim
+      (λ (h : leb (age + 1) d ≡ false). inl (leb-false (age + 1) d h))
+      (λ (h : inRange old ≡ false). inr h)
+      (one-fails (leb (age + 1) d) (inRange old) e)),
+)
+
+day-carried : (covered : Bool) (new old : Float) (age d : ℕ) (t : Float) (m : ℕ) → d ≤ maxDays →
+    (readingOf (dayOf covered new old age d .0) (dayOf covered new old age d .1) ≡ carried t m) ↔
+    (((covered ≡ true) ⊎ (inRange new ≡ false)) × ((inRange old ≡ true) × (old ≡ t) × (age + 1 ≡ m) × (m ≤ d)))
 unfolding dayOf
-day-carried covered new old age d t m e =
-    let r = left-carried (not covered && inRange new) (leb (age + 1) d && inRange old) new old age t m e in
-    let few = leb-true (age + 1) d (parts (leb (age + 1) d) (inRange old) (r .0) .0) in
-    (r .1, omega (arith, r .1, few), r .2)
+day-carried covered new old age d t m l = (
+  (λ e.
+      let r = left-carried (not covered && inRange new) (leb (age + 1) d && inRange old) new old age t m e in
+      let p = parts (leb (age + 1) d) (inRange old) (r .1) in
+      (nothing-new covered (inRange new) .1 (r .0), (p .1, sym (r .3), sym (r .2), omega (arith, r .2, leb-true (age + 1) d (p .0))))),
+  (λ w.
+      rw (nothing-new covered (inRange new) .0 (w .0), le-leb (age + 1) d (omega arith), w .1 .0)
+      (carried-reads old (age + 1) t m (w .1 .2, omega arith, omega arith, w .1 .1, ap inRange (sym (w .1 .1)) ∙ w .1 .0))),
+)
+
+left-gap : (a b : Bool) (new old : Float) (age : ℕ) → a ≡ false → b ≡ false → readingOf (leaves a b new old age .0) (leaves a b new old age .1) ≡ gap
+unfolding readingOf
+left-gap a b new old age p q = rw (p, q)
+
+day-gap : (covered : Bool) (new old : Float) (age d : ℕ) → d ≤ maxDays →
+    (readingOf (dayOf covered new old age d .0) (dayOf covered new old age d .1) ≡ gap) ↔
+    (((covered ≡ true) ⊎ (inRange new ≡ false)) × ((d < age + 1) ⊎ (inRange old ≡ false)))
+unfolding dayOf
+day-gap covered new old age d l = (
+  (λ e.
+      let r = left-nothing (not covered && inRange new) (leb (age + 1) d && inRange old) new old age
+      (λ h. parts (not covered) (inRange new) h .1)
+      (λ h.
+      let p = parts (leb (age + 1) d) (inRange old) h in
+      (le-trans (leb-true (age + 1) d (p .0)) l, p .1))
+      e in
+      (nothing-new covered (inRange new) .1 (r .0), not-carried old age d .1 (r .1))),
+  (λ w. left-gap (not covered && inRange new) (leb (age + 1) d && inRange old) new old age
+      (nothing-new covered (inRange new) .0 (w .0))
+      (not-carried old age d .0 (w .1))),
+)
 
 left-older : (a b : Bool) (new old : Float) (age : ℕ) → age ≤ 255 → (leaves a b new old age .1 ≡ 0) ⊎ (age ≤ leaves a b new old age .1)
 left-older true b new old age h = inl refl
 left-older false true new old age h = inr (omega arith)
 left-older false false new old age h = inr h
 
--- a cell that gets nothing and was a gap: neither its age nor its temperature can be carried
-no-carrying : (old : Float) (age d : ℕ) → d ≤ maxDays → Gap old age → (leb (age + 1) d && inRange old) ≡ false
-no-carrying old age d l (inl h) = not-first (leb (age + 1) d) (inRange old) (lt-leb (age + 1) d (omega arith))
-no-carrying old age d l (inr h) = not-second (leb (age + 1) d) (inRange old) h
-
-left-gap : (a b : Bool) (new old : Float) (age : ℕ) → a ≡ false → b ≡ false → readingOf (leaves a b new old age .0) (leaves a b new old age .1) ≡ gap
-unfolding readingOf
-left-gap a b new old age p q = rw (p, q)
+-- a cell that was a gap can't be carried: by its age or by its temperature
+no-carrying : (old : Float) (age d : ℕ) → d ≤ maxDays → Gap old age → (d < age + 1) ⊎ (inRange old ≡ false)
+no-carrying old age d l (inl h) = inl (omega arith)
+no-carrying old age d l (inr h) = inr h
 
 -- a value out of range acts as cloud
 pub out-of-range-covers : (covered : Bool) (new old : Float) (age d : ℕ) → inRange new ≡ false → dayOf covered new old age d ≡ dayOf true new old age d
@@ -86,22 +142,30 @@ fresh-after n d new clouds temps ages c t h = (
   (λ f. reads-left n d new clouds temps ages c h ∙ fresh-day (marked clouds c) (temperatureAt new c) (temperatureAt temps c) (ageAt ages c) d t f),
 )
 
--- a carried cell has its old temperature, and its days are one more than before and at most d
-pub carried-after : (n d : ℕ) (new : List Float) (clouds : List ℕ) (temps : List Float) (ages : List ℕ) (c : ℕ) (t : Float) (m : ℕ) → c < n →
-    readsAfter n d new clouds temps ages c ≡ carried t m → (m ≡ ageAt ages c + 1) × (m ≤ d) × (t ≡ temperatureAt temps c)
-carried-after n d new clouds temps ages c t m h e =
-    day-carried (marked clouds c) (temperatureAt new c) (temperatureAt temps c) (ageAt ages c) d t m (sym (reads-left n d new clouds temps ages c h) ∙ e)
+-- a cell is carried to m days with t exactly when the day has nothing new for it, and its old temperature t, in range, is carried on to m days
+pub carried-after : (n d : ℕ) (new : List Float) (clouds : List ℕ) (temps : List Float) (ages : List ℕ) (c : ℕ) (t : Float) (m : ℕ) → c < n → d ≤ maxDays →
+    (readsAfter n d new clouds temps ages c ≡ carried t m) ↔ (NothingNew new clouds c × CarriedOn d temps ages c t m)
+carried-after n d new clouds temps ages c t m h l =
+    let f = day-carried (marked clouds c) (temperatureAt new c) (temperatureAt temps c) (ageAt ages c) d t m l in
+    ((λ e. f .0 (sym (reads-left n d new clouds temps ages c h) ∙ e)), (λ w. reads-left n d new clouds temps ages c h ∙ f .1 w))
+
+-- and a gap exactly when there is nothing new for it and it can't be carried
+pub gap-exactly-after : (n d : ℕ) (new : List Float) (clouds : List ℕ) (temps : List Float) (ages : List ℕ) (c : ℕ) → c < n → d ≤ maxDays →
+    (readsAfter n d new clouds temps ages c ≡ gap) ↔ (NothingNew new clouds c × NotCarried d temps ages c)
+gap-exactly-after n d new clouds temps ages c h l =
+    let f = day-gap (marked clouds c) (temperatureAt new c) (temperatureAt temps c) (ageAt ages c) d l in
+    ((λ e. f .0 (sym (reads-left n d new clouds temps ages c h) ∙ e)), (λ w. reads-left n d new clouds temps ages c h ∙ f .1 w))
 
 -- with d = 0 no cell is carried
 pub none-carried : (n : ℕ) (new : List Float) (clouds : List ℕ) (temps : List Float) (ages : List ℕ) (c : ℕ) (t : Float) (m : ℕ) → c < n →
     readsAfter n 0 new clouds temps ages c ≡ carried t m → ⊥
 none-carried n new clouds temps ages c t m h e =
-    let r = carried-after n 0 new clouds temps ages c t m h e in
-    omega (arith, r .0, r .1)
+    let r = carried-after n 0 new clouds temps ages c t m h (omega arith) .0 e in
+    omega (arith, r .1 .2, r .1 .3)
 
 -- the count is the number of cells that read fresh
 pub count-after : (n d : ℕ) (new : List Float) (clouds : List ℕ) (temps : List Float) (ages : List ℕ) →
-    summaryAfter n d new clouds temps ages .0 ≡ size n (λ c. isFresh (readsAfter n d new clouds temps ages c))
+    summaryAfter n d new clouds temps ages .count ≡ size n (λ c. isFresh (readsAfter n d new clouds temps ages c))
 unfolding summaryAfter
 count-after n d new clouds temps ages = count-fresh n (readsAfter n d new clouds temps ages)
 
@@ -122,16 +186,9 @@ age-after n d new clouds temps ages c h b =
 
 -- a cell that was a gap and gets nothing stays one
 pub gap-after : (n d : ℕ) (new : List Float) (clouds : List ℕ) (temps : List Float) (ages : List ℕ) (c : ℕ) → c < n → d ≤ maxDays →
-    (marked clouds c ≡ true) ⊎ (inRange (temperatureAt new c) ≡ false) → readingAt temps ages c ≡ gap → readsAfter n d new clouds temps ages c ≡ gap
-unfolding dayOf
+    NothingNew new clouds c → readingAt temps ages c ≡ gap → readsAfter n d new clouds temps ages c ≡ gap
 gap-after n d new clouds temps ages c h l nothing g =
-    reads-left n d new clouds temps ages c h
-    ∙ left-gap _ _ (temperatureAt new c) (temperatureAt temps c) (ageAt ages c) (not-taken nothing)
-    (no-carrying (temperatureAt temps c) (ageAt ages c) d l (gap-exactly temps ages c .0 g))
-  where
-    not-taken : (marked clouds c ≡ true) ⊎ (inRange (temperatureAt new c) ≡ false) → (not (marked clouds c) && inRange (temperatureAt new c)) ≡ false
-    not-taken (inl e) = not-first (not (marked clouds c)) (inRange (temperatureAt new c)) (ap not e)
-    not-taken (inr e) = not-second (not (marked clouds c)) (inRange (temperatureAt new c)) e
+    gap-exactly-after n d new clouds temps ages c h l .1 (nothing, no-carrying (temperatureAt temps c) (ageAt ages c) d l (gap-exactly temps ages c .0 g))
 
 -- a value acts on its own cell alone
 pub own-cell : (d : ℕ) (new new′ : List Float) (clouds : List ℕ) (temps : List Float) (ages : List ℕ) (c : ℕ) →

@@ -16,7 +16,7 @@ use Rattle.refusal.proofs.Tests.{parts}
 use Rattle.bitset.specs.Bits.{size}
 use Rattle.bitset.proofs.Laws.{size-le}
 use Rattle.chart.specs.Chart.{inRange, Reading, fresh, carried, gap, maxDays, readingOf, temperatureAt, ageAt, readingAt}
-use Rattle.day.specs.Day.{nought, dayOf, listOf, Summary, none, withFresh, withCell, summaryOf, isFresh}
+use Rattle.day.specs.Day.{nought, dayOf, listOf, Summary, noneFresh, withFresh, withCell, summaryOf, isFresh}
 
 -- ---- the list of a function's values
 
@@ -90,41 +90,42 @@ unfolding readingOf withCell
 counts s t age e i = simp (e, i)
 
 -- the first fresh cell of all, and any other
-pub first-fresh : (n : ℕ) (lo hi t : Float) → n ≡ 0 → (1, t, t) ≡ withFresh (n, lo, hi) t
+pub first-fresh : (s : Summary) (t : Float) → s .count ≡ 0 → record { count = 1; coldest = t; warmest = t } ≡ withFresh s t
 unfolding withFresh
-first-fresh n lo hi t e = rw (eq-eqb n 0 e)
+first-fresh s t e = rw (eq-eqb (s .count) 0 e)
 
-pub next-fresh : (n : ℕ) (lo hi t lo′ hi′ : Float) → (n ≡ 0 → ⊥) → lo′ ≡ cond (Ieee.lt t lo) t lo → hi′ ≡ cond (Ieee.lt hi t) t hi →
-    (n + 1, lo′, hi′) ≡ withFresh (n, lo, hi) t
+pub next-fresh : (s : Summary) (t lo hi : Float) → (s .count ≡ 0 → ⊥) →
+    lo ≡ cond (Ieee.lt t (s .coldest)) t (s .coldest) → hi ≡ cond (Ieee.lt (s .warmest) t) t (s .warmest) →
+    record { count = s .count + 1; coldest = lo; warmest = hi } ≡ withFresh s t
 unfolding withFresh
-next-fresh n lo hi t lo′ hi′ h p q = rw (ne-eqb n 0 h) (ap₂ (λ (x y : Float). (n + 1, x, y)) p q)
+next-fresh s t lo hi h p q = rw (ne-eqb (s .count) 0 h, p, q)
 
 pub summaryOf-cong : (n : ℕ) (f g : ℕ → Reading) → ((c : ℕ) → c < n → f c ≡ g c) → summaryOf n f ≡ summaryOf n g
 unfolding summaryOf
 summaryOf-cong zero f g h = refl
 summaryOf-cong (suc n) f g h = ap₂ withCell (summaryOf-cong n f g (λ c l. h c (omega arith))) (h n (omega arith))
 
-one-more : (b : Bool) (n : ℕ) (x y : Summary) → (b ≡ true → n ≡ 0) → x .0 ≡ 1 → y .0 ≡ n + 1 → cond b x y .0 ≡ n + 1
+one-more : (b : Bool) (n : ℕ) (x y : Summary) → (b ≡ true → n ≡ 0) → x .count ≡ 1 → y .count ≡ n + 1 → cond b x y .count ≡ n + 1
 one-more true n x y f p q = omega (arith, f refl)
 one-more false n x y f p q = q
 
-fresh-more : (s : Summary) (t : Float) → withFresh s t .0 ≡ s .0 + 1
+fresh-more : (s : Summary) (t : Float) → withFresh s t .count ≡ s .count + 1
 unfolding withFresh
-fresh-more (n, lo, hi) t = one-more (eqb n 0) n (1, t, t) (n + 1, cond (Ieee.lt t lo) t lo, cond (Ieee.lt hi t) t hi) (eqb-true n 0) refl refl
+fresh-more s t = one-more (eqb (s .count) 0) (s .count) _ _ (eqb-true (s .count) 0) refl refl
 
-cell-more : (s : Summary) (r : Reading) → withCell s r .0 ≡ s .0 + cond (isFresh r) 1 0
+cell-more : (s : Summary) (r : Reading) → withCell s r .count ≡ s .count + cond (isFresh r) 1 0
 unfolding withCell isFresh
 cell-more s (fresh t) = fresh-more s t
 cell-more s (carried t d) = omega arith
 cell-more s gap = omega arith
 
 -- the count is the number of fresh readings
-pub count-fresh : (n : ℕ) (reads : ℕ → Reading) → summaryOf n reads .0 ≡ size n (λ c. isFresh (reads c))
+pub count-fresh : (n : ℕ) (reads : ℕ → Reading) → summaryOf n reads .count ≡ size n (λ c. isFresh (reads c))
 unfolding summaryOf size
 count-fresh zero reads = refl
 count-fresh (suc n) reads = cell-more (summaryOf n reads) (reads n) ∙ ap (λ (m : ℕ). m + cond (isFresh (reads n)) 1 0) (count-fresh n reads)
 
-pub count-le : (n : ℕ) (reads : ℕ → Reading) → summaryOf n reads .0 ≤ n
+pub count-le : (n : ℕ) (reads : ℕ → Reading) → summaryOf n reads .count ≤ n
 count-le n reads = omega (arith, count-fresh n reads, size-le n (λ c. isFresh (reads c)))
 
 -- ---- the pass over the cells
@@ -137,7 +138,7 @@ pub record Rewritten (f : ℕ → Float × ℕ) (temps₀ : List Float) (ages₀
   pub age-rest : (c : ℕ) → i ≤ c → ageAt ages c ≡ ageAt ages₀ c
   pub summed : s ≡ summaryOf i (λ c. readingOf (f c .0) (f c .1))
 
-pub none-rewritten : (f : ℕ → Float × ℕ) (temps : List Float) (ages : List ℕ) (s : Summary) → s ≡ none → Rewritten f temps ages temps ages s 0
+pub none-rewritten : (f : ℕ → Float × ℕ) (temps : List Float) (ages : List ℕ) (s : Summary) → s ≡ noneFresh → Rewritten f temps ages temps ages s 0
 unfolding summaryOf
 none-rewritten f temps ages s e = record {
   warmth = below-none _;

@@ -1,8 +1,9 @@
 -- One day of a chart (document 01, "Charts and ages"): it reads new temperatures and a cloud mask, rewrites the chart's two slices, and answers a
 -- summary of the chart that it leaves.
-use Prim.Native.Nat.{ℕ, zero, suc, _+_, _^_, _<_}
+use Prim.Native.Nat.{ℕ, zero, suc, _+_, _^_, _≤_, _<_}
 use mathlib.Core.Bool.{Bool, true, false, _&&_, not, cond}
 use mathlib.Core.List.{List, [], _∷_, _++_}
+use mathlib.Core.Logic.{_⊎_}
 use mathlib.Core.Path.{_≡_}
 use lib.Dec.{leb, ltb, eqb}
 use lib.IntN.{pos}
@@ -45,24 +46,45 @@ temperaturesAfter n d new clouds temps ages = listOf n (λ c. dayAt d new clouds
 unfoldable pub agesAfter : ℕ → ℕ → List Float → List ℕ → List Float → List ℕ → List ℕ
 agesAfter n d new clouds temps ages = listOf n (λ c. dayAt d new clouds temps ages c .1)
 
+-- said in theorems: the day has nothing new for cell c, since the mask covers it or its new temperature is not in range
+abbrev pub NothingNew : List Float → List ℕ → ℕ → Type 0
+NothingNew new clouds c = (marked clouds c ≡ true) ⊎ (inRange (temperatureAt new c) ≡ false)
+
+-- and cell c is carried to m days with t: its old temperature t is in range, and m is one more than its age and at most the limit
+abbrev pub CarriedOn : ℕ → List Float → List ℕ → ℕ → Float → ℕ → Type 0
+CarriedOn d temps ages c t m =
+    (inRange (temperatureAt temps c) ≡ true) × (temperatureAt temps c ≡ t) × (ageAt ages c + 1 ≡ m) × (m ≤ d)
+
+-- or it can't be carried: it would be past the limit, or its old temperature is not in range
+abbrev pub NotCarried : ℕ → List Float → List ℕ → ℕ → Type 0
+NotCarried d temps ages c = (d < ageAt ages c + 1) ⊎ (inRange (temperatureAt temps c) ≡ false)
+
 -- what cell c reads in the chart of n cells that the day leaves
 abbrev pub readsAfter : ℕ → ℕ → List Float → List ℕ → List Float → List ℕ → ℕ → Reading
 readsAfter n d new clouds temps ages = readingAt (temperaturesAfter n d new clouds temps ages) (agesAfter n d new clouds temps ages)
 
 -- ---- the summary
 
--- "count, coldest and warmest of the fresh cells"
-abbrev pub Summary : Type 0
-Summary = ℕ × Float × Float
+-- count, coldest and warmest of the fresh cells
+pub record Summary : Type 0 where
+  pub count : ℕ
+  pub coldest : Float
+  pub warmest : Float
 
--- "with none, 0 and 0.0 twice"
-abbrev pub none : Summary
-none = (0, nought, nought)
+-- with none fresh: 0, and 0.0 twice
+abbrev pub noneFresh : Summary
+noneFresh = record { count = 0; coldest = nought; warmest = nought }
 
--- a fresh cell more: the first of all is coldest and warmest; "on equal temperatures the first in cell order stands"
+-- a fresh cell more: the first of all is coldest and warmest; on equal temperatures the first in cell order stands
 unfoldable pub withFresh : Summary → Float → Summary
-withFresh (n, coldest, warmest) t =
-    cond (eqb n 0) (1, t, t) (n + 1, cond (Ieee.lt t coldest) t coldest, cond (Ieee.lt warmest t) t warmest)
+withFresh s t =
+    cond (eqb (s .count) 0)
+    (record { count = 1; coldest = t; warmest = t })
+    (record {
+      count = s .count + 1;
+      coldest = cond (Ieee.lt t (s .coldest)) t (s .coldest);
+      warmest = cond (Ieee.lt (s .warmest) t) t (s .warmest);
+    })
 
 -- a cell more: only fresh ones count
 unfoldable pub withCell : Summary → Reading → Summary
@@ -78,7 +100,7 @@ isFresh gap = false
 
 -- the first n cells of a chart, in cell order, by what each reads
 unfoldable pub summaryOf : ℕ → (ℕ → Reading) → Summary
-summaryOf zero reads = none
+summaryOf zero reads = noneFresh
 summaryOf (suc n) reads = withCell (summaryOf n reads) (reads n)
 
 -- x is the foremost of the fresh temperatures of n cells, by two comparisons, ahead and not behind; Reads c t says that cell c reads fresh with t
@@ -117,15 +139,25 @@ unfoldable pub summaryAfter : ℕ → ℕ → List Float → List ℕ → List F
 summaryAfter n d new clouds temps ages =
     summaryOf n (readsAfter n d new clouds temps ages)
 
--- a refused day leaves both slices
-abbrev pub dayCall : ℕ → ℕ → List Float → List ℕ → List Float → List ℕ → Answer Summary × (List Float × List ℕ)
+-- the two slices of a chart
+pub record Slices : Type 0 where
+  pub temperatures : List Float
+  pub ages : List ℕ
+
+-- a day's answer, and the two slices that it leaves; a refused day leaves both as they were
+abbrev pub dayCall : ℕ → ℕ → List Float → List ℕ → List Float → List ℕ → Answer Summary × Slices
 dayCall k d new clouds temps ages =
-    lending {S = List Float × List ℕ} (inOrder (dayTests k d new clouds temps ages) (summaryAfter (cells k) d new clouds temps ages)) (temps, ages)
-    (temperaturesAfter (cells k) d new clouds temps ages, agesAfter (cells k) d new clouds temps ages)
+    lending
+    (inOrder (dayTests k d new clouds temps ages) (summaryAfter (cells k) d new clouds temps ages))
+    (record { temperatures = temps; ages = ages })
+    (record {
+      temperatures = temperaturesAfter (cells k) d new clouds temps ages;
+      ages = agesAfter (cells k) d new clouds temps ages;
+    })
 
 -- what the code's values stand for
 abbrev pub summaryIs : declared.Summary → Summary
-summaryIs s = (s .count, s .coldest, s .warmest)
+summaryIs s = record { count = s .count; coldest = s .coldest; warmest = s .warmest }
 
 abbrev pub saidDay : DayAnswer → Answer Summary
 saidDay (day-answer.Summed s) = given (summaryIs s)

@@ -170,7 +170,7 @@ pub fn day(
     temperatures: &mut [f32],
     ages: &mut [u8],
 ) -> DayAnswer
-    ensures { λ r. ⌜ (saidDay r, (now (temperatures .exit), now (ages .exit)))
+    ensures { λ r. ⌜ (saidDay r, record { temperatures = now (temperatures .exit); ages = now (ages .exit) })
         ≡ dayCall level limit (now (new .entry)) (now (clouds .entry)) (now (temperatures .entry)) (now (ages .entry)) ⌝ }
 {
     match day_tests(level, limit, new, clouds, temperatures, ages) {

@@ -10,18 +10,18 @@ use lib.ListN.{length, drop, replicate}
 use lib.Ieee.{Float}
 use Rattle.refusal.specs.Answer.{Answer, given, refused, Test, _when_, First, done}
 use Rattle.refusal.specs.Tests.{badLevel, badLength}
-use Rattle.bitset.specs.Bits.{marked, bytesOf, size, outside}
+use Rattle.bitset.specs.Bits.{marked, bytesOf, size}
 use Rattle.cell.specs.Cell.{Place, place, number, cells, maxLevel, badCell, badPlace, placeCall, numberCall}
 use Rattle.position.specs.Position.{placeAt, badLatitude, badLongitude, cellCall}
 use Rattle.centre.specs.Centre.{centre, centreCall}
-use Rattle.step.specs.Step.{step, foundOr, codeTo, badStep, stepCall, codeCall}
-use Rattle.border.specs.Stored.{valueOf, codeBytes}
-use Rattle.border.specs.Border.{badCount, badNumber, levelRead, startRead, countRead, header, cellsOf, readBorder, anyFrom, codesOf, borderBytes, writeBorder}
+use Rattle.step.specs.Step.{step, foundOr, codeTo, badStep, stepTarget, stepCall, codeCall}
+use Rattle.border.specs.Stored.{codeBytes}
+use Rattle.border.specs.Border.{badCount, badNumber, badPadding, levelRead, startRead, countRead, header, cellsOf, readBorder, anyFrom, codesOf, borderBytes, writeBorder}
 use Rattle.corner.specs.Corner.{touches, touchCall}
 use Rattle.touch.specs.Touch.{touching, padded, listCall}
 use Rattle.mask.specs.Mask.{maxMaskLevel, maskCall, countCall, union, joinCall, difference, lowest, withinCall}
 use Rattle.grow.specs.Grow.{badRings, grownCells, shrunkCells, growCall, shrinkCall}
-use Rattle.fill.specs.Fill.{reachable, badOutside, fillCall}
+use Rattle.fill.specs.Fill.{unreached, badOutside, fillCall}
 use Rattle.chart.specs.Chart.{readingAt, readingCall}
 use Rattle.day.specs.Day.{temperaturesAfter, agesAfter, summaryAfter, badDays, dayCall}
 
@@ -74,7 +74,7 @@ pub record Demand1 : Type 0 where
   -- step along a code: 1, 4, 7
   pub step-along : (k n c : ℕ) →
       ByTests (badLevel maxLevel k ∷ badCell k n ∷ badStep (step k (place k n) c) ∷ [])
-      (stepCall k n c) (number k (foundOr (place k n) (step k (place k n) c)))
+      (stepCall k n c) (number k (stepTarget k n c))
   -- code between two cells: 1, 4, 7
   pub code-between : (k m n : ℕ) →
       ByTests (badLevel maxLevel k ∷ badCell k m ∷ badCell k n ∷ badStep (codeTo k n (place k m)) ∷ [])
@@ -109,7 +109,7 @@ pub record Demand1 : Type 0 where
   -- fill: 1, 4, 5, 8
   pub fill : (k : ℕ) (a : List ℕ) (o : ℕ) (out : List ℕ) →
       LentByTests (badLevel maxMaskLevel k ∷ badCell k o ∷ badLength (4 ^ k) a ∷ badLength (4 ^ k) out ∷ badOutside a o ∷ [])
-      (fillCall k a o out) done out (bytesOf (4 ^ k) (outside (reachable k (marked a) o)))
+      (fillCall k a o out) done out (bytesOf (4 ^ k) (unreached k (marked a) o))
   -- reading of a cell: 1, 4, 5
   pub reading-of : (k : ℕ) (temps : List Float) (ages : List ℕ) (c : ℕ) →
       ByTests (badLevel maxMaskLevel k ∷ badCell k c ∷ badLength (cells k) temps ∷ badLength (cells k) ages ∷ [])
@@ -120,8 +120,9 @@ pub record Demand1 : Type 0 where
       (badLevel maxMaskLevel k
       ∷ badLength (cells k) new ∷ badLength (4 ^ k) clouds ∷ badLength (cells k) temps ∷ badLength (cells k) ages
       ∷ badDays d ∷ [])
-      (dayCall k d new clouds temps ages) (summaryAfter (cells k) d new clouds temps ages) (temps, ages)
-      (temperaturesAfter (cells k) d new clouds temps ages, agesAfter (cells k) d new clouds temps ages)
+      (dayCall k d new clouds temps ages) (summaryAfter (cells k) d new clouds temps ages)
+      (record { temperatures = temps; ages = ages })
+      (record { temperatures = temperaturesAfter (cells k) d new clouds temps ages; ages = agesAfter (cells k) d new clouds temps ages })
   -- the border reader: for level, start and count in turn the number (10, 11) and then its bound (1, 4, 9); then 10, 12, 5, 7
   pub read-border : (bs out : List ℕ) →
       let (k, start, n, at) = header bs in
@@ -131,7 +132,7 @@ pub record Demand1 : Type 0 where
       ∷ badNumber (startRead bs) ∷ badCell k start
       ∷ badNumber (countRead bs) ∷ badCount n
       ∷ (10 when ltb (length bs) (at + codeBytes n))
-      ∷ (12 when ltb (at + codeBytes n) (length bs)) ∷ (12 when leb (8 ^ n) (valueOf 256 (drop at bs)))
+      ∷ (12 when ltb (at + codeBytes n) (length bs)) ∷ badPadding n (drop at bs)
       ∷ (5 when leb (length out) n)
       ∷ badStep (cellsOf bs (header bs)) ∷ [])
       (readBorder bs out) (k, length found) out (found ++ drop (length found) out)

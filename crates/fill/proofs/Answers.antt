@@ -12,7 +12,7 @@ use Rattle.bitset.specs.Bits.{marked, bytesOf, outside}
 use Rattle.bitset.proofs.Laws.{length-bytesOf, marked-bytesOf, bytesOf-cong}
 use Rattle.cell.specs.Cell.{cells}
 use Rattle.mask.specs.Mask.{maxMaskLevel}
-use Rattle.fill.specs.Fill.{reachable, fillTests, fillCall, saidFill}
+use Rattle.fill.specs.Fill.{reachable, unreached, fillTests, fillCall, saidFill}
 use Rattle.fill.specs.declared.FillAnswer.{FillAnswer}
 use Rattle.fill.specs.declared.FillAnswer.the-variants as fill-answer
 
@@ -56,5 +56,5 @@ fill-done k a o out reached l h e f =
 
 -- what it writes where it is not refused
 pub filled-bytes : (k : ℕ) (a : List ℕ) (o : ℕ) (out : List ℕ) → fillCall k a o out .0 ≡ given done →
-    fillCall k a o out .1 ≡ bytesOf (4 ^ k) (outside (reachable k (marked a) o))
+    fillCall k a o out .1 ≡ bytesOf (4 ^ k) (unreached k (marked a) o)
 filled-bytes k a o out e = rw e

@@ -19,7 +19,7 @@ use Rattle.mask.specs.Reach.{reaches}
 use Rattle.mask.proofs.Walks.{Stepwise, walk-reach}
 use Rattle.mask.proofs.Reach.{reach-zero, reach-self, reach-stay, reach-step, reach-out, reach-trans}
 use Rattle.mask.proofs.Closure.{closure}
-use Rattle.fill.specs.Fill.{openStep, Reachable, reachable, fillCall}
+use Rattle.fill.specs.Fill.{openStep, Reachable, reachable, unreached, fillCall}
 use Rattle.fill.proofs.Answers.{Ready, ready, filled-bytes}
 
 -- ---- direct steps lead to cells of the level
@@ -143,7 +143,7 @@ module _ (k : ℕ) (a : List ℕ) (o : ℕ) (out : List ℕ) (accepted : fillCal
   -- a cell is marked exactly when it can't be reached
   pub fill-marks : (c : ℕ) → c < cells k → marked (fillCall k a o out .1) c ≡ not (reachable k (marked a) o c)
   unfolding outside
-  fill-marks c h = ap (λ (l : List ℕ). marked l c) (filled-bytes k a o out accepted) ∙ marked-bytesOf (4 ^ k) (outside (reachable k (marked a) o)) c h
+  fill-marks c h = ap (λ (l : List ℕ). marked l c) (filled-bytes k a o out accepted) ∙ marked-bytesOf (4 ^ k) (unreached k (marked a) o) c h
 
   pub fill-exactly : (c : ℕ) → c < cells k → (marked (fillCall k a o out .1) c ≡ true) ↔ (Reachable k (marked a) o c → ⊥)
   fill-exactly c h =
@@ -172,7 +172,7 @@ same-fill : (k : ℕ) (a b : List ℕ) (o p : ℕ) (out out′ : List ℕ) → f
 unfolding outside
 same-fill k a b o p out out′ x y same =
     filled-bytes k a o out x
-    ∙ bytesOf-cong (4 ^ k) (outside (reachable k (marked a) o)) (outside (reachable k (marked b) p))
+    ∙ bytesOf-cong (4 ^ k) (unreached k (marked a) o) (unreached k (marked b) p)
     (λ c h. ap not (same-test (reachable k (marked a) o c) (reachable k (marked b) p c) (same c h .0) (same c h .1)))
     ∙ sym (filled-bytes k b p out′ y)
 

@@ -25,6 +25,10 @@ Reachable k A o c = (m : ℕ) × Walk (openStep k A) m o c
 unfoldable pub reachable : ℕ → (ℕ → Bool) → ℕ → ℕ → Bool
 reachable k A o c = reaches (cells k) (openStep k A) (cells k) o c
 
+-- what is filled: the cells that the outside cell can't reach
+abbrev pub unreached : ℕ → (ℕ → Bool) → ℕ → ℕ → Bool
+unreached k A o = outside (reachable k A o)
+
 -- 8: the outside cell is marked
 abbrev pub badOutside : List ℕ → ℕ → Test
 badOutside a o = 8 when marked a o
@@ -35,7 +39,7 @@ fillTests k a o out = badLevel maxMaskLevel k ∷ badCell k o ∷ badLength (4 ^
 
 -- fill: reads a border and an outside cell, and marks in another mask what that cell can't reach; the border is part of it
 abbrev pub fillCall : ℕ → List ℕ → ℕ → List ℕ → Answer (Unit {0}) × List ℕ
-fillCall k a o out = lending (inOrder (fillTests k a o out) done) out (bytesOf (4 ^ k) (outside (reachable k (marked a) o)))
+fillCall k a o out = lending (inOrder (fillTests k a o out) done) out (bytesOf (4 ^ k) (unreached k (marked a) o))
 
 -- what the code's answers say
 abbrev pub saidFill : FillAnswer → Answer (Unit {0})

@@ -1,10 +1,14 @@
 -- Tests that calls of several crates have, each with its number in document 01's table ("Refused calls").
 use Prim.Native.Nat.{ℕ}
-use mathlib.Core.Bool.{not}
+use mathlib.Core.Bool.{false, not}
 use mathlib.Core.List.{List}
 use lib.Dec.{ltb, eqb}
 use lib.ListN.{length}
 use Rattle.refusal.specs.Answer.{Test, _when_}
+
+-- a test that never applies
+abbrev pub passes : Test
+passes = 0 when false
 
 -- 1: the level is above its bound
 abbrev pub badLevel : ℕ → ℕ → Test

@@ -106,12 +106,14 @@ foundOr a (some x) = x
 abbrev pub badStep : {A : Type 0} → Option A → Test
 badStep s = 7 when missing s
 
+-- where the step along a code leads from cell n; where there is none the cell itself, hidden by the test for 7
+abbrev pub stepTarget : ℕ → ℕ → ℕ → Place
+stepTarget k n code = foundOr (place k n) (step k (place k n) code)
+
 -- step along a code: refused 1, 4, 7
 abbrev pub stepCall : ℕ → ℕ → ℕ → Answer ℕ
 stepCall k n code =
-    inOrder
-    (badLevel maxLevel k ∷ badCell k n ∷ badStep (step k (place k n) code) ∷ [])
-    (number k (foundOr (place k n) (step k (place k n) code)))
+    inOrder (badLevel maxLevel k ∷ badCell k n ∷ badStep (step k (place k n) code) ∷ []) (number k (stepTarget k n code))
 
 -- code between two cells: refused 1, 4, 7
 abbrev pub codeCall : ℕ → ℕ → ℕ → Answer ℕ

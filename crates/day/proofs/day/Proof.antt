@@ -7,7 +7,7 @@ use Rattle.refusal.specs.Answer.{given, refused, inOrder, done}
 use Rattle.mask.specs.Mask.{saidMask}
 use Rattle.mask.proofs.Laws.{mask-small}
 use Rattle.day.specs.Day.{dayTests, dayCall, temperaturesAfter, agesAfter, summaryAfter}
-use Rattle.day.proofs.Answers.{Ready, ready, day-refused, day-given}
+use Rattle.day.proofs.Answers.{Ready, ready, slices, day-refused, day-given}
 use Rattle.day.proofs.day.Statement.{statement}
 use Rattle.day.proofs.day.Tie as tie
 
@@ -48,7 +48,7 @@ same-length-2 c = search needs
 
 -- a test refused, and the slices are as they were
 refused-told : (c : tie.After-known-told) → let a = c .before .before .before .before .before .before .before .before .before .before .args in
-    (refused (c .before .n .given .0 .0), (a .temperatures .now, a .ages .now))
+    (refused (c .before .n .given .0 .0), slices (a .temperatures .now) (a .ages .now))
     ≡ dayCall (a .level) (a .limit) (a .new .now) (a .clouds .now) (a .temperatures .now) (a .ages .now)
 refused-told c =
     let a = c .before .before .before .before .before .before .before .before .before .before .args in

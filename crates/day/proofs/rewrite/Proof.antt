@@ -83,7 +83,7 @@ with-cell-requires c κs =
     let a = entry (at c) .args in
     let f = dayAt (a .limit) (a .new .now) (a .clouds .now) (a .temperatures .now) (a .ages .now) in
     let e = cell-left c in
-    let n : l .summary .count ≡ summaryOf (l .i) (λ i. readingOf (f i .0) (f i .1)) .0 = ap (λ (s : Summary). s .0) (l .inv .3 .summed) in (
+    let n : l .summary .count ≡ summaryOf (l .i) (λ i. readingOf (f i .0) (f i .1)) .count = ap (λ (s : Summary). s .count) (l .inv .3 .summed) in (
       omega (arith, n, count-le (l .i) (λ i. readingOf (f i .0) (f i .1))),
       λ z. ap (λ (p : Float × ℕ). inRange (p .0)) e ∙ fresh-inside _ _ _ _ _ (sym (ap (λ (p : Float × ℕ). p .1) e) ∙ z),
     )

@@ -24,7 +24,7 @@ returns-2 : tie.Need-returns-2
 returns-2 c =
     let a = c .before .before .before .args in
     let s = a .summary in
-    first-fresh (s .count) (s .coldest) (s .warmest) (a .temperature) (omega arith) ∙ fresh-cell (c .before .before)
+    first-fresh (summaryIs s) (a .temperature) (omega arith) ∙ fresh-cell (c .before .before)
 
 add-t5 : tie.Need-add-t5
 add-t5 c = omega arith
@@ -40,7 +40,7 @@ returns-3 c =
     let e = c .before .before .before .before .before in
     let a = e .before .args in
     let s = a .summary in
-    next-fresh (s .count) (s .coldest) (s .warmest) (a .temperature) _ _ (λ z. omega arith) (c .before .colder .ensures) (c .warmer .ensures) ∙ fresh-cell e
+    next-fresh (summaryIs s) (a .temperature) _ _ (λ z. omega arith) (c .before .colder .ensures) (c .warmer .ensures) ∙ fresh-cell e
 
 pub with-cell-spec : {M : Type 1} → statement M
 with-cell-spec =
