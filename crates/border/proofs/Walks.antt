@@ -122,3 +122,13 @@ unfolding codesBetween
 codes-below k m [] codes e i = let s : codes ≡ [] = cc in rw s (omega arith)
 codes-below k m (n ∷ ns) codes e zero = let j = joining k m n ns codes e in rw (j .all) (code-below k m n (j .code) (j .join))
 codes-below k m (n ∷ ns) codes e (suc i) = let j = joining k m n ns codes e in rw (j .all) (codes-below k n ns (j .rest) (j .found) i)
+
+-- each of them leads from a cell to the next
+pub codes-lead : (k m : ℕ) (ns codes : List ℕ) → codesBetween k m ns ≡ some codes → (i : ℕ) → i < length codes →
+    stepCall k (getD (m ∷ ns) i 0) (getD codes i 0) ≡ given (getD (m ∷ ns) (suc i) 0)
+unfolding codesBetween
+codes-lead k m [] codes e i h = let s : codes ≡ [] = cc in absurd (omega (arith, ap length s))
+codes-lead k m (n ∷ ns) codes e zero h = let j = joining k m n ns codes e in rw (j .all) (calls-agree k m n (j .code) .0 (j .join))
+codes-lead k m (n ∷ ns) codes e (suc i) h =
+    let j = joining k m n ns codes e in
+    rw (j .all) (codes-lead k n ns (j .rest) (j .found) i (omega (arith, ap length (j .all))))

@@ -11,6 +11,7 @@ use lib.Dec.{leb}
 use Rattle.refusal.specs.Answer.{Answer, given, Test, _when_, inOrder, lending, First}
 use Rattle.refusal.proofs.Answers.{Passed, gives, passed, refuses, first}
 use Rattle.refusal.proofs.Tests.{clash, parts}
+use Rattle.demands.proofs.Numbers.{read-number}
 use Rattle.demands.specs.Demand1.{Applies, Lowest, ByTests, Lends, LentByTests, InOrder, Demand1}
 
 -- the numbers of a list of tests rise from m on
@@ -117,6 +118,8 @@ demand-1 = record {
   fill = λ k a o out. lent-by-tests _ _ _ _ refl;
   reading-of = λ k temps ages c. by-tests _ _ refl;
   day = λ k d new clouds temps ages. lent-by-tests _ _ _ _ refl;
+  read-number = read-number;
+  write-number = λ n at out. lent-by-tests _ _ _ _ refl;
   read-border = λ bs out. in-order _ _ _ _;
   write-border = λ k cs out. in-order _ _ _ _;
 }

@@ -26,10 +26,13 @@ use Rattle.touch.proofs.Indirect.{direct-3, indirect-3, indirect-7}
 use Rattle.fill.proofs.Laws.{fill-exactly, border-filled, outside-not-filled}
 use Rattle.varint.proofs.Laws as numbers
 use Rattle.border.proofs.Laws.{read-written, write-read, same-border, written-length}
+use Rattle.chart.proofs.Laws.{not-a-number}
 use Rattle.demands.specs.Demand2.{Demand2}
-use Rattle.demands.proofs.Borders.{one-cell}
-use Rattle.demands.proofs.Charts.{day-fresh, day-carried, day-count, day-coldest, day-warmest, day-none}
+use Rattle.demands.proofs.Borders.{one-cell, border-layout, border-lengths}
+use Rattle.demands.proofs.Centres.{centre-up, centre-down}
+use Rattle.demands.proofs.Charts.{reads-fresh, reads-carried, reads-gap, day-fresh, day-carried, day-gap, day-count, day-coldest, day-warmest, day-none}
 use Rattle.demands.proofs.Codes.{inside-octant, T-leads, E-leads, W-leads, direct-step}
+use Rattle.demands.proofs.Numbers.{ends-early, not-in-form}
 use Rattle.demands.proofs.Touching.{touch-point, touch-mutual, neighbours-touch, listing, touch-list}
 
 -- ---- numbers and places
@@ -112,6 +115,8 @@ demand-2 = record {
   south-mirrors = south-mirrors;
   cell-nests = answered-nested;
   has-centre = centre-returns;
+  centre-up = centre-up;
+  centre-down = centre-down;
   centre-returns = return-call;
   inside-octant = inside-octant;
   T-leads = T-leads;
@@ -140,16 +145,25 @@ demand-2 = record {
   fill-exactly = fill-exactly;
   border-filled = border-filled;
   outside-open = outside-not-filled;
+  reads-fresh = reads-fresh;
+  reads-carried = reads-carried;
+  reads-gap = reads-gap;
+  nan-out = not-a-number;
   day-fresh = day-fresh;
   day-carried = day-carried;
+  day-gap = day-gap;
   day-count = day-count;
   day-coldest = day-coldest;
   day-warmest = day-warmest;
   day-none = day-none;
   number-read = numbers.read-written;
   number-exactly = numbers.read-exactly;
+  number-ends-early = ends-early;
+  number-not-in-form = not-in-form;
   border-read = read-written;
   border-written = write-read;
+  border-layout = border-layout;
+  border-lengths = border-lengths;
   one-border = same-border;
   one-cell = one-cell;
   border-length = written-length;

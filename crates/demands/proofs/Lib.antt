@@ -1,4 +1,6 @@
+pub mod Numbers
 pub mod Demand1
+pub mod Centres
 pub mod Charts
 pub mod Borders
 pub mod Codes

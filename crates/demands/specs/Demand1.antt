@@ -6,11 +6,12 @@ use mathlib.Core.List.{List, [], _∷_, _++_}
 use mathlib.Core.Logic.{_⊎_, _↔_}
 use lib.Dec.{leb, ltb, eqb}
 use lib.IntN.{ℤ}
-use lib.ListN.{length, drop, replicate}
+use lib.ListN.{length, take, drop, replicate}
 use lib.Ieee.{Float}
 use Rattle.refusal.specs.Answer.{Answer, given, refused, Test, _when_, First, done}
 use Rattle.refusal.specs.Tests.{badLevel, badLength}
-use Rattle.bitset.specs.Bits.{marked, bytesOf, size}
+use Rattle.bitset.specs.Bits.{Bytes, marked, bytesOf, size}
+use Rattle.varint.specs.Varint.{numeral, readCall, EndsEarly, NotInForm, writeCall}
 use Rattle.cell.specs.Cell.{Place, place, number, cells, maxLevel, badCell, badPlace, placeCall, numberCall}
 use Rattle.position.specs.Position.{placeAt, badLatitude, badLongitude, cellCall}
 use Rattle.centre.specs.Centre.{centre, centreCall}
@@ -123,6 +124,13 @@ pub record Demand1 : Type 0 where
       (dayCall k d new clouds temps ages) (summaryAfter (cells k) d new clouds temps ages)
       (record { temperatures = temps; ages = ages })
       (record { temperatures = temperaturesAfter (cells k) d new clouds temps ages; ages = agesAfter (cells k) d new clouds temps ages })
+  -- a stored number: 10 where its bytes end early, 11 where it is not in its form, and no other number
+  pub read-number : (bs : List ℕ) (at n : ℕ) → Bytes bs →
+      (readCall bs at ≡ refused n) ↔ (((n ≡ 10) × EndsEarly (drop at bs)) ⊎ ((n ≡ 11) × NotInForm (drop at bs)))
+  -- writing one: 5 where its bytes don't fit
+  pub write-number : (n at : ℕ) (out : List ℕ) →
+      let next = at + length (numeral n) in
+      LentByTests ((5 when ltb (length out) next) ∷ []) (writeCall n out at) next out (take at out ++ (numeral n ++ drop next out))
   -- the border reader: for level, start and count in turn the number (10, 11) and then its bound (1, 4, 9); then 10, 12, 5, 7
   pub read-border : (bs out : List ℕ) →
       let (k, start, n, at) = header bs in

@@ -6,21 +6,22 @@ use mathlib.Core.Bool.{Bool, true, false}
 use mathlib.Core.List.{List, [], _∷_, _++_, map}
 use mathlib.Core.Logic.{_⊎_, _↔_}
 use lib.IntN.{ℤ, pos, natAbs, negℤ, _+ℤ_}
-use lib.ListN.{length, take, drop, replicate}
-use lib.Ieee.{Float}
+use lib.ListN.{length, take, drop, getD, replicate}
+use lib.Ieee.{Float, nan, inf}
 use Rattle.refusal.specs.Answer.{Answer, given, refused, done}
-use Rattle.bitset.specs.Bits.{Bytes, marked, size}
+use Rattle.bitset.specs.Bits.{Bytes, bit, marked, size}
 use Rattle.cell.specs.Cell.{Triangle, up, down, child, Place, place, Occurs, cells, maxLevel, placeCall, numberCall}
 use Rattle.position.specs.Position.{q, latitudeOut, longitudeOut, beginning, northOctant, offset, octant, Holds, cellCall}
 use Rattle.centre.specs.Centre.{centreCall}
 use Rattle.step.specs.Step.{across, east, west, stepCall, codeCall}
 use Rattle.step.specs.Neighbours.{back, direct, isDirect, Neighbours}
-use Rattle.varint.specs.Varint.{numeral, readCall, Exactly}
+use Rattle.varint.specs.Varint.{numeral, readCall, Exactly, EndsEarly, NotInForm}
 use Rattle.border.specs.Border.{readBorder, borderBytes, writeBorder}
 use Rattle.corner.specs.Corner.{Point, norm, corners, touchCall}
 use Rattle.touch.specs.Touch.{rising, indirect, CornerCell, cellsAt, Tip, unused, listCall}
+use Rattle.mask.specs.Mask.{maxMaskLevel}
 use Rattle.fill.specs.Fill.{Reachable, fillCall}
-use Rattle.chart.specs.Chart.{inRange, Reading, fresh, carried, temperatureAt, ageAt, readingCall}
+use Rattle.chart.specs.Chart.{inRange, Reading, fresh, carried, gap, temperatureAt, ageAt, readingCall}
 use Rattle.day.specs.Day.{nought, Summary, isFresh, Coldest, Warmest, dayCall}
 
 -- ---- the steps inside an octant, line by line
@@ -59,7 +60,45 @@ pub record TouchList (k n j : ℕ) (slice : List ℕ) : Type 0 where
   pub rises : Rises 0 listed
   pub exactly : (m : ℕ) → In m listed ↔ (touchCall k n m ≡ given true)
 
+-- ---- centres
+
+-- w is the whole part of x / d
+abbrev pub WholePart : ℕ → ℕ → ℕ → Type 0
+WholePart w x d = (w * d ≤ x) × (x < (w + 1) * d)
+
+-- (y, x) is the centre of a cell of row a and column b in octant o
+pub record CentreIs (k o a b s : ℕ) (y x : ℤ) : Type 0 where
+  -- p is the whole part of q(3a+s)/(3N), m that of (3b+s)·q²/(3N(q−p))
+  pub p : ℕ
+  pub m : ℕ
+  pub p-is : WholePart p (q * (3 * a + s)) (3 * 2 ^ k)
+  pub m-is : WholePart m ((3 * b + s) * (q * q)) (3 * 2 ^ k * (q - p))
+  -- the latitude is p, in the south −p; the longitude is the octant's beginning plus m
+  pub north : o < 4 → y ≡ pos p
+  pub south : 4 ≤ o → y ≡ negℤ (pos p)
+  pub longitude : x ≡ beginning o +ℤ pos m
+
+-- ---- borders
+
+-- the bytes of a border of level k through cells
+pub record Layout (k : ℕ) (cs bs : List ℕ) : Type 0 where
+  -- from each cell a code leads to the next
+  pub codes : List ℕ
+  pub count : length cs ≡ suc (length codes)
+  pub leads : (i : ℕ) → i < length codes → stepCall k (getD cs i 0) (getD codes i 0) ≡ given (getD cs (suc i) 0)
+  -- level, start cell and number of codes, and then the codes' bytes
+  pub last : List ℕ
+  pub numbers : bs ≡ numeral k ++ (numeral (getD cs 0 0) ++ (numeral (length codes) ++ last))
+  -- three bits a code, low bits first: bit 3i + j is bit j of code i; and in the last byte zeros after them
+  pub bytes : (length last ≡ (3 * length codes + 7) / 8) × Bytes last
+  pub three-bits : (i j : ℕ) → i < length codes → j < 3 → marked last (3 * i + j) ≡ bit (getD codes i 0) j
+  pub padding : (c : ℕ) → 3 * length codes ≤ c → c < 8 * length last → marked last c ≡ false
+
 -- ---- readings
+
+-- two slices are a chart of level k
+abbrev pub IsChart : ℕ → List Float → List ℕ → Type 0
+IsChart k temps ages = (k ≤ maxMaskLevel) × (length temps ≡ cells k) × (length ages ≡ cells k)
 
 -- whether a call answers fresh
 abbrev pub answersFresh : Answer Reading → Bool
@@ -99,6 +138,9 @@ pub record Demand2 : Type 0 where
   -- every cell of every level to 14 has a centre, and the cell at that centre is the cell
   pub has-centre : (k n : ℕ) → k ≤ maxLevel → n < cells k →
       (c : ℤ × ℤ) × (centreCall k n ≡ given c) × (cellCall k (c .0) (c .1) ≡ given n)
+  -- it is where document 01's formula puts it, with s = 1 for up and s = 2 for down
+  pub centre-up : (k n o a b : ℕ) (y x : ℤ) → placeCall k n ≡ given (o, up a b) → centreCall k n ≡ given (y, x) → CentreIs k o a b 1 y x
+  pub centre-down : (k n o a b : ℕ) (y x : ℤ) → placeCall k n ≡ given (o, down a b) → centreCall k n ≡ given (y, x) → CentreIs k o a b 2 y x
   -- whatever centre is given leads back
   pub centre-returns : (k n : ℕ) (y x : ℤ) → centreCall k n ≡ given (y, x) → cellCall k y x ≡ given n
   -- t, l, r, e and w lead where the paper's lines say, and inside the octant only
@@ -162,44 +204,79 @@ pub record Demand2 : Type 0 where
   -- and the outside cell is not
   pub outside-open : (k : ℕ) (a : List ℕ) (o : ℕ) (out : List ℕ) → fillCall k a o out .0 ≡ given done →
       marked (fillCall k a o out .1) o ≡ false
+  -- a cell reads fresh with t exactly when its age is 0 and its temperature, in range, is t
+  pub reads-fresh : (k : ℕ) (temps : List Float) (ages : List ℕ) (c : ℕ) → IsChart k temps ages → c < cells k → (t : Float) →
+      (readingCall k temps ages c ≡ given (fresh t)) ↔ ((ageAt ages c ≡ 0) × (temperatureAt temps c ≡ t) × (inRange t ≡ true))
+  -- carried with t and m days exactly when its age is m, 1 to 30, and its temperature, in range, is t
+  pub reads-carried : (k : ℕ) (temps : List Float) (ages : List ℕ) (c : ℕ) → IsChart k temps ages → c < cells k → (t : Float) (m : ℕ) →
+      (readingCall k temps ages c ≡ given (carried t m)) ↔
+      ((ageAt ages c ≡ m) × (1 ≤ m) × (m ≤ 30) × (temperatureAt temps c ≡ t) × (inRange t ≡ true))
+  -- and a gap exactly when its age is above 30 or its temperature is out of range
+  pub reads-gap : (k : ℕ) (temps : List Float) (ages : List ℕ) (c : ℕ) → IsChart k temps ages → c < cells k →
+      (readingCall k temps ages c ≡ given gap) ↔ ((30 < ageAt ages c) ⊎ (inRange (temperatureAt temps c) ≡ false))
+  -- NaN and the infinities are out of range
+  pub nan-out : (inRange nan ≡ false) × ((minus : Bool) → inRange (inf minus) ≡ false)
   -- after a day a cell is fresh exactly when that pass gave it an uncovered temperature in range, and then it reads that temperature
   pub day-fresh : (k d : ℕ) (new : List Float) (clouds : List ℕ) (temps : List Float) (ages : List ℕ) (s : Summary) →
       let after = dayCall k d new clouds temps ages in
+      let left = after .1 in
       after .0 ≡ given s → (c : ℕ) → c < cells k → (t : Float) →
-      (readingCall k (after .1 .0) (after .1 .1) c ≡ given (fresh t)) ↔
+      (readingCall k (left .temperatures) (left .ages) c ≡ given (fresh t)) ↔
       ((marked clouds c ≡ false) × (inRange (temperatureAt new c) ≡ true) × (temperatureAt new c ≡ t))
-  -- a cell that is carried after it has its old temperature, and its days are one more than its age was and at most the limit
+  -- it is carried with t and m days exactly when the mask covers it or its new temperature is out of range, t is its old temperature, in range, and m
+  -- is one more than its age and at most the limit
   pub day-carried : (k d : ℕ) (new : List Float) (clouds : List ℕ) (temps : List Float) (ages : List ℕ) (s : Summary) →
       let after = dayCall k d new clouds temps ages in
+      let left = after .1 in
       after .0 ≡ given s → (c : ℕ) → c < cells k → (t : Float) (m : ℕ) →
-      readingCall k (after .1 .0) (after .1 .1) c ≡ given (carried t m) →
-      (m ≡ ageAt ages c + 1) × (m ≤ d) × (t ≡ temperatureAt temps c)
+      (readingCall k (left .temperatures) (left .ages) c ≡ given (carried t m)) ↔
+      (((marked clouds c ≡ true) ⊎ (inRange (temperatureAt new c) ≡ false)) ×
+      ((inRange (temperatureAt temps c) ≡ true) × (temperatureAt temps c ≡ t) × (ageAt ages c + 1 ≡ m) × (m ≤ d)))
+  -- and a gap exactly when the mask covers it or its new temperature is out of range, and it is past the limit or its old temperature is out of range
+  pub day-gap : (k d : ℕ) (new : List Float) (clouds : List ℕ) (temps : List Float) (ages : List ℕ) (s : Summary) →
+      let after = dayCall k d new clouds temps ages in
+      let left = after .1 in
+      after .0 ≡ given s → (c : ℕ) → c < cells k →
+      (readingCall k (left .temperatures) (left .ages) c ≡ given gap) ↔
+      (((marked clouds c ≡ true) ⊎ (inRange (temperatureAt new c) ≡ false)) ×
+      ((d < ageAt ages c + 1) ⊎ (inRange (temperatureAt temps c) ≡ false)))
   -- the summary's count is the number of cells that read fresh after the day
   pub day-count : (k d : ℕ) (new : List Float) (clouds : List ℕ) (temps : List Float) (ages : List ℕ) (s : Summary) →
       let after = dayCall k d new clouds temps ages in
-      after .0 ≡ given s → s .0 ≡ size (cells k) (λ c. answersFresh (readingCall k (after .1 .0) (after .1 .1) c))
+      let left = after .1 in
+      after .0 ≡ given s → s .count ≡ size (cells k) (λ c. answersFresh (readingCall k (left .temperatures) (left .ages) c))
   -- where it is above 0, coldest is the temperature of a cell that reads fresh, at most that of any such cell, and of equals that of the first
   pub day-coldest : (k d : ℕ) (new : List Float) (clouds : List ℕ) (temps : List Float) (ages : List ℕ) (s : Summary) →
       let after = dayCall k d new clouds temps ages in
-      after .0 ≡ given s → 1 ≤ s .0 → Coldest (cells k) (λ c t. readingCall k (after .1 .0) (after .1 .1) c ≡ given (fresh t)) (s .1)
+      let left = after .1 in
+      after .0 ≡ given s → 1 ≤ s .count → Coldest (cells k) (λ c t. readingCall k (left .temperatures) (left .ages) c ≡ given (fresh t)) (s .coldest)
   -- and warmest likewise, at least that of any
   pub day-warmest : (k d : ℕ) (new : List Float) (clouds : List ℕ) (temps : List Float) (ages : List ℕ) (s : Summary) →
       let after = dayCall k d new clouds temps ages in
-      after .0 ≡ given s → 1 ≤ s .0 → Warmest (cells k) (λ c t. readingCall k (after .1 .0) (after .1 .1) c ≡ given (fresh t)) (s .2)
+      let left = after .1 in
+      after .0 ≡ given s → 1 ≤ s .count → Warmest (cells k) (λ c t. readingCall k (left .temperatures) (left .ages) c ≡ given (fresh t)) (s .warmest)
   -- where it is 0 they are 0.0 twice
   pub day-none : (k d : ℕ) (new : List Float) (clouds : List ℕ) (temps : List Float) (ages : List ℕ) (s : Summary) →
-      dayCall k d new clouds temps ages .0 ≡ given s → s .0 ≡ 0 → (s .1 ≡ nought) × (s .2 ≡ nought)
+      dayCall k d new clouds temps ages .0 ≡ given s → s .count ≡ 0 → (s .coldest ≡ nought) × (s .warmest ≡ nought)
   -- stored numbers: a number is read from where it was written
   pub number-read : (n at : ℕ) (front rest : List ℕ) → n < 2 ^ 32 → length front ≡ at →
       readCall (front ++ (numeral n ++ rest)) at ≡ given (n, at + length (numeral n))
   -- and what is read is below 2^32, in the shortest form, and of no other bytes
   pub number-exactly : (bs : List ℕ) (at v next : ℕ) → Bytes bs → readCall bs at ≡ given (v, next) → Exactly bs at v next
+  -- a number is refused 10 exactly when its bytes are fewer than five, each with its high bit set
+  pub number-ends-early : (bs : List ℕ) (at : ℕ) → (readCall bs at ≡ refused 10) ↔ EndsEarly (drop at bs)
+  -- and 11 exactly when five have their high bit set, or the number is 2^32 or above, or not in its shortest form
+  pub number-not-in-form : (bs : List ℕ) (at : ℕ) → Bytes bs → (readCall bs at ≡ refused 11) ↔ NotInForm (drop at bs)
   -- a border stored and read is the same border: what the writer writes, the reader reads as the same level and cells
   pub border-read : (k : ℕ) (cs out lent : List ℕ) (n : ℕ) → writeBorder k cs out .0 ≡ given n → length cs ≤ length lent →
       readBorder (take n (writeBorder k cs out .1)) lent ≡ (given (k, length cs), cs ++ drop (length cs) lent)
   -- accepted bytes are those the writer writes for what was read
   pub border-written : (bs out lent : List ℕ) (k n : ℕ) → Bytes bs → readBorder bs out .0 ≡ given (k, n) → length bs ≤ length lent →
       writeBorder k (take n (readBorder bs out .1)) lent ≡ (given (length bs), bs ++ drop (length bs) lent)
+  -- what is written is level, start cell and number of codes, and then codes of three bits each, low bits first, the last byte padded with zeros
+  pub border-layout : (k : ℕ) (cs out : List ℕ) (n : ℕ) → writeBorder k cs out .0 ≡ given n → Layout k cs (take n (writeBorder k cs out .1))
+  -- reader and writer keep the length of the slice that they fill
+  pub border-lengths : (bs cs out : List ℕ) (k : ℕ) → (length (readBorder bs out .1) ≡ length out) × (length (writeBorder k cs out .1) ≡ length out)
   -- so two different byte strings never read as one border
   pub one-border : (bs bs′ out out′ : List ℕ) (k n : ℕ) → Bytes bs → Bytes bs′ →
       readBorder bs out .0 ≡ given (k, n) → readBorder bs′ out′ .0 ≡ given (k, n) → take n (readBorder bs out .1) ≡ take n (readBorder bs′ out′ .1) →

@@ -1,9 +1,9 @@
--- Demand 3: growing and shrinking by touching steps, and lists of growings. Document 01 ("Corners and touching", "Masks") fixes its terms.
-use Prim.Native.Nat.{ℕ, _+_, _^_, _<_}
+-- Demand 3: growing and shrinking by touching steps, lists of growings, joining and within. Document 01 ("Corners and touching", "Masks") fixes its terms.
+use Prim.Native.Nat.{ℕ, _+_, _^_, _≤_, _<_}
 use mathlib.Core.Path.{_≡_}
-use mathlib.Core.Bool.{Bool, true, _&&_}
+use mathlib.Core.Bool.{Bool, true, false, _&&_}
 use mathlib.Core.List.{List, [], _∷_}
-use mathlib.Core.Logic.{_↔_}
+use mathlib.Core.Logic.{_⊎_, _↔_}
 use lib.Dec.{ltb}
 use lib.ListN.{length}
 use Rattle.refusal.specs.Answer.{Answer, given, refused, done}
@@ -11,8 +11,8 @@ use Rattle.bitset.specs.Bits.{Bytes, marked}
 use Rattle.cell.specs.Cell.{cells}
 use Rattle.corner.specs.Corner.{touches}
 use Rattle.mask.specs.Walk.{Walk}
-use Rattle.mask.specs.Mask.{within, joinCall, withinCall}
-use Rattle.grow.specs.Grow.{growCall, shrinkCall}
+use Rattle.mask.specs.Mask.{maxMaskLevel, joinCall, Inclusion, within, lacks, withinCall}
+use Rattle.grow.specs.Grow.{maxRings, growCall, shrinkCall}
 
 -- ---- touching steps
 
@@ -30,9 +30,12 @@ NearMarked k m a c = (d : ℕ) × (d < cells k) × (marked a d ≡ true) × AtMo
 
 -- ---- lists of growings
 
--- a mask of level k: 4^k bytes
+-- a slice has the length of a mask of level k, 4^k; a mask is such a slice of bytes
+abbrev pub Fits : ℕ → List ℕ → Type 0
+Fits k a = length a ≡ 4 ^ k
+
 abbrev pub Mask : ℕ → List ℕ → Type 0
-Mask k a = (length a ≡ 4 ^ k) × Bytes a
+Mask k a = Fits k a × Bytes a
 
 -- a call that is lent slices, and was not refused
 abbrev pub Accepted : {S : Type 0} → Answer (Unit {0}) × S → Type 0
@@ -79,6 +82,24 @@ ringsOf (g ∷ gs) a = ringsAdded (growing g a .0) (g .rings) + ringsOf gs (afte
 -- ---- the demand
 
 pub record Demand3 : Type 0 where
+  -- growing and shrinking are accepted at every level to 8, by every ring count to 64, where the three slices have a mask's length
+  pub accepts-grow : (k m : ℕ) (a out work : List ℕ) → k ≤ maxMaskLevel → m ≤ maxRings → Fits k a → Fits k out → Fits k work →
+      Accepted (growCall k m a out work)
+  pub accepts-shrink : (k m : ℕ) (a out work : List ℕ) → k ≤ maxMaskLevel → m ≤ maxRings → Fits k a → Fits k out → Fits k work →
+      Accepted (shrinkCall k m a out work)
+  -- and so are joining and within
+  pub accepts-join : (k : ℕ) (a b out : List ℕ) → k ≤ maxMaskLevel → Fits k a → Fits k b → Fits k out → Accepted (joinCall k a b out)
+  pub accepts-within : (k : ℕ) (a b : List ℕ) → k ≤ maxMaskLevel → Fits k a → Fits k b → (i : Inclusion) × (withinCall k a b ≡ given i)
+  -- A and B joined mark exactly the cells marked in either
+  pub joins : (k : ℕ) (a b out : List ℕ) → Accepted (joinCall k a b out) →
+      (c : ℕ) → c < cells k → (marked (joinCall k a b out .1) c ≡ true) ↔ ((marked a c ≡ true) ⊎ (marked b c ≡ true))
+  -- A is answered within B exactly when every cell marked in A is marked in B
+  pub within-yes : (k : ℕ) (a b : List ℕ) → k ≤ maxMaskLevel → Fits k a → Fits k b →
+      (withinCall k a b ≡ given within) ↔ ((c : ℕ) → c < cells k → marked a c ≡ true → marked b c ≡ true)
+  -- and c is answered exactly when it is the lowest cell marked in A and not in B
+  pub within-lacks : (k : ℕ) (a b : List ℕ) → k ≤ maxMaskLevel → Fits k a → Fits k b → (c : ℕ) →
+      (withinCall k a b ≡ given (lacks c)) ↔
+      ((c < cells k) × (marked a c ≡ true) × (marked b c ≡ false) × ((d : ℕ) → d < c → marked a d ≡ true → marked b d ≡ true))
   -- A grown by m marks exactly the cells at most m touching steps from a cell marked in A
   pub grown : (k m : ℕ) (a out work : List ℕ) → Accepted (growCall k m a out work) →
       (c : ℕ) → c < cells k → (marked (written (growCall k m a out work)) c ≡ true) ↔ NearMarked k m a c
@@ -89,9 +110,9 @@ pub record Demand3 : Type 0 where
   -- after any list of growings the mask marks exactly the cells at most s touching steps from A, s the sum of the accepted ring counts
   pub list : (k : ℕ) (a : List ℕ) → Mask k a → (gs : List Growing) →
       (c : ℕ) → c < cells k → (marked (after gs a) c ≡ true) ↔ NearMarked k (ringsOf gs a) a c
-  -- where a growing by s is accepted, so with s at most 64, its bytes are those of A grown once by s
-  pub list-once : (k : ℕ) (a : List ℕ) → Mask k a → (gs : List Growing) (out work : List ℕ) →
-      Accepted (growCall k (ringsOf gs a) a out work) → after gs a ≡ written (growCall k (ringsOf gs a) a out work)
+  -- where s is at most 64, its bytes are those of A grown once by s
+  pub list-once : (k : ℕ) (a : List ℕ) → k ≤ maxMaskLevel → Mask k a → (gs : List Growing) → ringsOf gs a ≤ maxRings →
+      (out work : List ℕ) → Fits k out → Fits k work → after gs a ≡ written (growCall k (ringsOf gs a) a out work)
   -- after the empty list the mask is A, and the sum 0
   pub list-empty : (a : List ℕ) → (after [] a ≡ a) × (ringsOf [] a ≡ 0)
   -- A and B joined and then grown by m have the bytes of A and B each grown by m and then joined, whatever slices are lent

@@ -1,3 +1,4 @@
 pub mod Groups
 pub mod Calls
 pub mod Laws
+pub mod Refusals

@@ -1,11 +1,12 @@
 -- The numbers of a stored border (document 01, "Stored border"): "groups of seven bits, low group first, the high bit set when another follows,
 -- shortest form, at most five bytes and below 2^32".
-use Prim.Native.Nat.{ℕ, zero, suc, _+_, _-_, _*_, _/_, _%_, _^_, _<_}
+use Prim.Native.Nat.{ℕ, zero, suc, _+_, _-_, _*_, _/_, _%_, _^_, _≤_, _<_}
 use mathlib.Core.Bool.{not, cond}
+use mathlib.Core.Logic.{_⊎_}
 use mathlib.Core.Path.{_≡_}
 use mathlib.Core.List.{List, [], _∷_, _++_}
 use lib.Dec.{leb, ltb, eqb}
-use lib.ListN.{length, take, drop}
+use lib.ListN.{length, take, drop, getD}
 use Rattle.refusal.specs.Answer.{Answer, given, refused, _when_, inOrder, lending}
 use Rattle.varint.specs.declared.ReadAnswer.{ReadAnswer}
 use Rattle.varint.specs.declared.ReadAnswer.the-variants as read-answer
@@ -46,6 +47,33 @@ pub record Exactly (bs : List ℕ) (at v next : ℕ) : Type 0 where
   pub below : v < 2 ^ 32
   pub place : next ≡ at + length (numeral v)
   pub bytes : take (next - at) (drop at bs) ≡ numeral v
+
+-- ---- what is said of refused numbers in theorems, over the bytes from the number's place on
+
+-- the first j bytes have their high bit set
+abbrev pub HighBits : ℕ → List ℕ → Type 0
+HighBits j bs = (i : ℕ) → i < j → 128 ≤ getD bs i 0
+
+-- fewer than five bytes with the high bit set, and none after them
+abbrev pub EndsEarly : List ℕ → Type 0
+EndsEarly bs = (length bs < 5) × HighBits (length bs) bs
+
+-- what j bytes with the high bit set and the one after them say
+unfoldable pub groupsSay : ℕ → List ℕ → ℕ
+groupsSay zero bs = getD bs 0 0
+groupsSay (suc j) bs = getD bs 0 0 - 128 + 128 * groupsSay j (drop 1 bs)
+
+-- a number of j + 1 bytes, at most five, that is 2^32 or above, or has a last group of 0 though it isn't its only one
+pub record OutOfForm (bs : List ℕ) : Type 0 where
+  pub before : ℕ
+  pub few : before < 5
+  pub high : HighBits before bs
+  pub ends : (before < length bs) × (getD bs before 0 < 128)
+  pub bad : (2 ^ 32 ≤ groupsSay before bs) ⊎ ((1 ≤ before) × (getD bs before 0 ≡ 0))
+
+-- not in the form of a stored number: five bytes with the high bit set, or a number out of form
+abbrev pub NotInForm : List ℕ → Type 0
+NotInForm bs = HighBits 5 bs ⊎ OutOfForm bs
 
 -- writing a number from a place on, and the place after it; the rest of the slice stays: refused 5
 abbrev pub writeCall : ℕ → List ℕ → ℕ → Answer ℕ × List ℕ
