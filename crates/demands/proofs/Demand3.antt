@@ -1,26 +1,25 @@
 -- Demand 3 holds. Assumes nothing.
-use Prim.Native.Nat.{ℕ, _^_, _≤_, _<_}
+use Prim.Native.Nat.{ℕ, _^_, _<_}
 use mathlib.Core.Path.{_≡_, refl, sym, ap, ap₂, _∙_}
 use mathlib.Core.Bool.{Bool, true, _||_}
 use mathlib.Core.List.{List, []}
 use mathlib.Core.Logic.{_⊎_, ⊎-elim, _↔_}
-use borrow.Author.Tests.{le-ltb}
 use lib.ListN.{length}
-use Rattle.refusal.specs.Answer.{given, inOrder, done}
-use Rattle.refusal.proofs.Answers.{gives}
-use Rattle.refusal.proofs.Tests.{left, right, cases, length-passes}
+use Rattle.refusal.specs.Answer.{given}
+use Rattle.refusal.proofs.Tests.{left, right, cases}
 use Rattle.bitset.specs.Bits.{marked, bytesOf}
 use Rattle.bitset.proofs.Laws.{length-bytesOf, marked-bytesOf, bytesOf-cong, bytesOf-marked}
 use Rattle.cell.specs.Cell.{cells}
 use Rattle.corner.specs.Corner.{touches}
 use Rattle.corner.proofs.Laws.{touches-symmetric}
-use Rattle.mask.specs.Mask.{maxMaskLevel, within, union, joinTests, joinCall, withinCall}
+use Rattle.mask.specs.Mask.{within, union, joinCall, withinCall}
 use Rattle.mask.proofs.Answers.{joined-bytes}
-use Rattle.mask.proofs.Inclusion.{within-answers, within-exactly, lacks-exactly}
-use Rattle.grow.specs.Grow.{grownCells, shrunkCells, maxRings, ringTests, growCall, shrinkCall}
+use Rattle.mask.proofs.Inclusion.{within-exactly, lacks-exactly}
+use Rattle.grow.specs.Grow.{grownCells, shrunkCells, growCall, shrinkCall}
 use Rattle.mask.proofs.Reach.{grown-adds, grown-cong, grown-zero, grown-union, grown-shrunk}
 use Rattle.grow.proofs.Answers.{ready, grown-bytes, shrunk-bytes}
-use Rattle.demands.specs.Demand3.{Fits, Accepted, written, after, ringsOf, Demand3}
+use Rattle.demands.specs.Demand3.{Accepted, written, after, ringsOf, Demand3}
+use Rattle.demands.proofs.Accepts.{accepts}
 use Rattle.demands.proofs.Steps.{both-ways, itself, grown-exactly, shrunk-exactly}
 use Rattle.demands.proofs.Growings.{growings}
 
@@ -31,21 +30,6 @@ marked-is k P l e c h = ap (λ (x : List ℕ). marked x c) e ∙ marked-bytesOf 
 -- the same said of two sides that hold together
 carried : {x y : Bool} {B : Type 0} → x ≡ y → ((y ≡ true) ↔ B) → (x ≡ true) ↔ B
 carried e g = ((λ p. g .0 (sym e ∙ p)), (λ b. e ∙ g .1 b))
-
--- ---- what is accepted
-
-rings-pass : (k m : ℕ) (a out work : List ℕ) → k ≤ maxMaskLevel → m ≤ maxRings → Fits k a → Fits k out → Fits k work →
-    inOrder (ringTests k m a out work) done ≡ given done
-rings-pass k m a out work h r p q s =
-    sym (gives (ringTests k m a out work) done (
-      le-ltb maxMaskLevel k h,
-      (length-passes (4 ^ k) a p, (length-passes (4 ^ k) out q, (length-passes (4 ^ k) work s, (le-ltb maxRings m r, tt)))),
-    ))
-
-join-passes : (k : ℕ) (a b out : List ℕ) → k ≤ maxMaskLevel → Fits k a → Fits k b → Fits k out → Accepted (joinCall k a b out)
-join-passes k a b out h p q s =
-    sym (gives (joinTests k a b out) done
-    (le-ltb maxMaskLevel k h, (length-passes (4 ^ k) a p, (length-passes (4 ^ k) b q, (length-passes (4 ^ k) out s, tt)))))
 
 -- ---- joined
 
@@ -144,10 +128,7 @@ empty-list a = (refl, refl)
 
 pub demand-3 : Demand3
 demand-3 = record {
-  accepts-grow = rings-pass;
-  accepts-shrink = rings-pass;
-  accepts-join = join-passes;
-  accepts-within = λ k a b h p q. (_, within-answers k a b h p q);
+  accepts = accepts;
   joins = joins;
   within-yes = within-exactly;
   within-lacks = lacks-exactly;
@@ -157,7 +138,7 @@ demand-3 = record {
   list = λ k a m gs c h.
       carried (marked-is k (grownCells k (ringsOf gs a) (marked a)) _ (growings k a gs m) c h) (grown-exactly k (ringsOf gs a) (marked a) c h);
   list-once = λ k a h m gs few out work p q.
-      growings k a gs m ∙ sym (grown-bytes k (ringsOf gs a) a out work (rings-pass k (ringsOf gs a) a out work h few (m .0) p q));
+      growings k a gs m ∙ sym (grown-bytes k (ringsOf gs a) a out work (accepts .grow k (ringsOf gs a) a out work h few (m .0) p q));
   list-empty = empty-list;
   joined = joined;
   grown-within = grown-within;

@@ -6,6 +6,7 @@ pub mod Borders
 pub mod Codes
 pub mod Touching
 pub mod Demand2
+pub mod Accepts
 pub mod Steps
 pub mod Growings
 pub mod Demand3

@@ -79,17 +79,23 @@ unfoldable pub ringsOf : List Growing → List ℕ → ℕ
 ringsOf [] a = 0
 ringsOf (g ∷ gs) a = ringsAdded (growing g a .0) (g .rings) + ringsOf gs (afterOne g a)
 
+-- ---- what is accepted
+
+pub record Accepts : Type 0 where
+  -- growing and shrinking at every level to 8, by every ring count to 64, where the three slices have a mask's length
+  pub grow : (k m : ℕ) (a out work : List ℕ) → k ≤ maxMaskLevel → m ≤ maxRings → Fits k a → Fits k out → Fits k work →
+      Accepted (growCall k m a out work)
+  pub shrink : (k m : ℕ) (a out work : List ℕ) → k ≤ maxMaskLevel → m ≤ maxRings → Fits k a → Fits k out → Fits k work →
+      Accepted (shrinkCall k m a out work)
+  -- joining, and within, where the slices have a mask's length
+  pub join : (k : ℕ) (a b out : List ℕ) → k ≤ maxMaskLevel → Fits k a → Fits k b → Fits k out → Accepted (joinCall k a b out)
+  pub answers-within : (k : ℕ) (a b : List ℕ) → k ≤ maxMaskLevel → Fits k a → Fits k b → (i : Inclusion) × (withinCall k a b ≡ given i)
+
 -- ---- the demand
 
 pub record Demand3 : Type 0 where
-  -- growing and shrinking are accepted at every level to 8, by every ring count to 64, where the three slices have a mask's length
-  pub accepts-grow : (k m : ℕ) (a out work : List ℕ) → k ≤ maxMaskLevel → m ≤ maxRings → Fits k a → Fits k out → Fits k work →
-      Accepted (growCall k m a out work)
-  pub accepts-shrink : (k m : ℕ) (a out work : List ℕ) → k ≤ maxMaskLevel → m ≤ maxRings → Fits k a → Fits k out → Fits k work →
-      Accepted (shrinkCall k m a out work)
-  -- and so are joining and within
-  pub accepts-join : (k : ℕ) (a b out : List ℕ) → k ≤ maxMaskLevel → Fits k a → Fits k b → Fits k out → Accepted (joinCall k a b out)
-  pub accepts-within : (k : ℕ) (a b : List ℕ) → k ≤ maxMaskLevel → Fits k a → Fits k b → (i : Inclusion) × (withinCall k a b ≡ given i)
+  -- the calls are accepted where the table of refused calls gives them no number
+  pub accepts : Accepts
   -- A and B joined mark exactly the cells marked in either
   pub joins : (k : ℕ) (a b out : List ℕ) → Accepted (joinCall k a b out) →
       (c : ℕ) → c < cells k → (marked (joinCall k a b out .1) c ≡ true) ↔ ((marked a c ≡ true) ⊎ (marked b c ≡ true))
