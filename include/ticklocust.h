@@ -151,7 +151,8 @@ uint32_t ticklocust_fill(uint32_t level, const uint8_t *border, size_t border_le
 
 /* The reading of a cell.
    Refused: 1, 4, 5 (temperatures or ages). Written: *kind, *temperature and *days: a fresh cell
-   gives its temperature and 0, a carried one its temperature and 1 to 30, a gap 0.0 and 0. */
+   gives its temperature and 0, a carried one its temperature and 1 to 30, a gap a NaN and 255, so
+   that a caller who doesn't look at *kind has no temperature either. */
 uint32_t ticklocust_reading(uint32_t level, uint32_t cell, const float *temperatures,
                             size_t temperatures_len, const uint8_t *ages, size_t ages_len,
                             uint32_t *kind, float *temperature, uint32_t *days);

@@ -77,6 +77,7 @@ pub fn reading(
         (0, temperature, _) => Reading::Fresh(temperature),
         // Days are 1 to 30.
         (1, temperature, days) => Reading::Carried(temperature, days as u8),
+        // The temperature is a NaN and the days are 255: neither is shown.
         _ => Reading::Gap,
     })
 }

@@ -168,7 +168,7 @@ pub fn fill(level: u32, border: &[u8], outside: u32, out: &mut [u8]) -> Result<(
     answer(said, ())
 }
 
-/// Answers kind, temperature and days.
+/// Answers kind, temperature and days; of a gap 2, a NaN and 255.
 #[rustfmt::skip]
 pub fn reading(level: u32, cell: u32, temperatures: &[f32], ages: &[u8])
     -> Result<(u32, f32, u32), Refusal> {
