@@ -20,8 +20,13 @@
 
    A slice to be written may hold anything before the call. No function takes memory from the heap
    or keeps anything between calls, so several threads may call at once, each with slices of its
-   own. ticklocust_grow and ticklocust_shrink need some 410 KiB of stack, ticklocust_fill some
-   330 KiB, ticklocust_border_read some 16 KiB. */
+   own.
+
+   Stack: ticklocust_fill needs 330 KiB, ticklocust_grow and ticklocust_shrink need 250 KiB each,
+   ticklocust_border_read 20 KiB, ticklocust_border_write 8 KiB and every other function 4 KiB
+   (measured by tests/c/stack.c). A thread with less stack crashes: no refusal can report it. Frames
+   are probed page by page, so an overflow hits the guard page of the stack and writes nothing
+   beyond it. */
 #ifndef TICKLOCUST_H
 #define TICKLOCUST_H
 

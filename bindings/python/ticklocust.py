@@ -14,6 +14,11 @@ call makes it. During a call other threads run; they must not change its buffers
     >>> cell, centre(1, cell)
     (0, (Latitude(microdegrees=30000000), Longitude(microdegrees=45000000)))
 
+fill needs 330 KiB of stack, grow and shrink need 250 KiB each, border_read 20 KiB, border_write
+8 KiB and every other call 4 KiB. A thread with less crashes the interpreter: no Refused can report
+it. This matters only where threading.stack_size was set below 1 MiB or so. Frames are probed page by
+page, so an overflow hits the guard page and writes nothing beyond it.
+
 The shared object is looked for by its whole name in TICKLOCUST_SO, then as libticklocust.so beside
 this file, two folders up (an installed PREFIX/lib), in the repository's target/bindings, and where
 the system looks. It is made from the archive by one command:

@@ -21,6 +21,13 @@
 //! assert_eq!(centre(1, cell)?, (Latitude(30_000_000), Longitude(45_000_000)));
 //! # Ok::<(), ticklocust::Refusal>(())
 //! ```
+//!
+//! # Stack
+//!
+//! [`fill`] needs 330 KiB of stack, [`grow`] and [`shrink`] need 250 KiB each, [`border_read`]
+//! 20 KiB, [`border_write`] 8 KiB and every other call 4 KiB. A thread of the standard library has
+//! 2 MiB. A thread with less stack than a call needs crashes: no refusal can report it. Frames are
+//! probed page by page, so an overflow hits the guard page and writes nothing beyond it.
 
 #![deny(missing_docs)]
 #![deny(unsafe_code)]
