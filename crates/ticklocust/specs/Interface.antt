@@ -28,12 +28,12 @@ abbrev pub inC : {A B : Type 0} → (A → B) → Answer A → Answer B
 inC f (given a) = given (f a)
 inC f (refused n) = refused n
 
--- within as one number: the lowest cell that lacks, or 4,294,967,295
+-- within as one number: the lowest cell that is in the first mask and not in the second, or 4,294,967,295
 abbrev pub lackingCell : Inclusion → ℕ
 lackingCell within = 4294967295
 lackingCell (lacks c) = c
 
--- a reading as kind, temperature and days: 0 fresh, 1 carried, 2 gap, whose temperature is no number and whose days are 255
+-- a reading as kind, temperature and days: 0 fresh, 1 carried, 2 gap, which has a NaN and 255 days
 abbrev pub kindTemperatureDays : Reading → ℕ × Float × ℕ
 kindTemperatureDays (fresh t) = (0, t, 0)
 kindTemperatureDays (carried t days) = (1, t, days)

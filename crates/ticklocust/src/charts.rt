@@ -44,7 +44,7 @@ pub extern "C" fn ticklocust_reading(
         }
         ReadingAnswer::Gap => {
             *kind = GAP;
-            // A NaN, so that who forgets the kind has no temperature either. A constant can't be one.
+            // A NaN: a caller who doesn't test the kind gets no temperature either. A constant can't be a NaN.
             *temperature = 0.0 / 0.0;
             *days = NO_DAYS;
             0
