@@ -1,22 +1,36 @@
-r"""Triangular cells of the globe, masks of cloud on them, and charts of sea temperature whose every
-temperature has its age: the proved library libticklocust, through ctypes.
+r"""Triangular cells of the globe, masks of cloud on them, and charts of sea temperature in degrees
+Celsius, where every temperature has an age: the proved library libticklocust, through ctypes.
 
-Each function is one call of include/ticklocust.h. It gives its answer or raises Refused, whose
+Each function makes one call of include/ticklocust.h. It returns its result or raises Refused, whose
 `number` is that of document 01's table; a refused call leaves every buffer as it was.
 
-Buffers are bytes, bytearray, memoryview, array.array or numpy arrays, contiguous, and are never
-copied. Masks, ages and stored borders are bytes; temperatures are 32-bit floats ('f') and cells
-32-bit unsigned numbers ('I'), or the bytes of either as a file has them. What a call writes is
-writable and overlaps nothing else that the call is given. Where nothing is given to be written, the
-call makes it. During a call other threads run; they must not change its buffers.
+Buffers are bytes, bytearray, memoryview, array.array or numpy arrays. They are contiguous and are
+never copied. Masks, ages and stored borders are bytes; temperatures are 32-bit floats ('f') and
+cells 32-bit unsigned integers ('I'), or the bytes of either as in a file. A buffer that a call
+writes is writable and overlaps no other buffer of the call. If none is passed for a result, the
+call makes one. Other threads run during a call; they must not change its buffers.
 
     >>> cell = cell_at(1, Latitude(22_500_000), Longitude(30_000_000))
     >>> cell, centre(1, cell)
     (0, (Latitude(microdegrees=30000000), Longitude(microdegrees=45000000)))
 
-The shared object is looked for by its whole name in TICKLOCUST_SO, then as libticklocust.so beside
-this file, two folders up (an installed PREFIX/lib), in the repository's target/bindings, and where
-the system looks. It is made from the archive by one command:
+fill needs 330 KiB of stack, grow and shrink need 250 KiB each, border_read 20 KiB, border_write
+8 KiB and every other call 4 KiB, besides what Python needs. A thread with less stack (set by
+threading.stack_size) crashes the process: no exception can report it. Frames are probed page by
+page, so an overflow hits the guard page and writes nothing beyond it.
+
+Not covered by the proofs:
+- This module: it is tested.
+- The bits of a NaN. The proofs know a single NaN; that a refused call leaves the bits of every NaN
+  as they were is tested.
+- Other floating-point modes. If flush-to-zero or denormals-are-zero is set, as C extensions built
+  with -ffast-math may do, day can give 0.0 where the coldest or the warmest temperature is a
+  subnormal number. Call with the default mode.
+- The stack: its use is measured.
+
+The shared object is the file named by TICKLOCUST_SO if that is set. Otherwise libticklocust.so is
+searched for beside this file, two folders up (an installed PREFIX/lib), in the repository's
+target/bindings, and where the system searches. This command makes it from the archive:
 
     gcc -shared -o libticklocust.so \
         -Wl,--whole-archive libticklocust.a -Wl,--no-whole-archive
@@ -70,7 +84,7 @@ _SENTENCES = {
 
 
 class Refused(Exception):
-    """A call was refused. `number` is 1 to 12, as document 01's table has it."""
+    """A call was refused. `number` is that of document 01's table, 1 to 12."""
 
     number: int
 
@@ -97,7 +111,7 @@ class Longitude:
 
 
 class Kind(enum.Enum):
-    """What a temperature is worth."""
+    """The kind of a reading."""
 
     FRESH = "fresh"
     CARRIED = "carried"
@@ -105,8 +119,9 @@ class Kind(enum.Enum):
 
 
 class Reading(NamedTuple):
-    """What a chart says of a cell: FRESH with temperature and 0 days, CARRIED with temperature and
-    1 to 30 days, or GAP with neither. It is no number: a caller has to take it apart."""
+    """What a chart says about a cell: FRESH with a temperature in degrees Celsius and 0 days,
+    CARRIED with a temperature and 1 to 30 days, or GAP with None for both. It can't be used as a
+    number."""
 
     kind: Kind
     temperature: float | None
@@ -121,7 +136,8 @@ class Reading(NamedTuple):
 
 
 class Summary(NamedTuple):
-    """The fresh cells of the chart that a day leaves; with none, 0 and 0.0 twice."""
+    """The fresh cells of a chart after a day, with temperatures in degrees Celsius. If no cell is
+    fresh, count is 0 and both temperatures are 0.0."""
 
     count: int
     coldest: float
@@ -130,7 +146,8 @@ class Summary(NamedTuple):
 
 @dataclass(frozen=True)
 class Within:
-    """Whether one mask is within another: true, or false with the lowest cell that lacks."""
+    """Whether every cell of one mask is in another: true, or false with `lacking`, the lowest cell
+    that is not."""
 
     lacking: int | None
 
@@ -173,7 +190,7 @@ def _load() -> ctypes.CDLL:
     try:
         library = ctypes.CDLL(named or next(found, name))
     except OSError as error:
-        raise ImportError(f"{error}; the words above this module say how {name} is made") from None
+        raise ImportError(f"{error}; this module's docstring says how to make {name}") from None
     for call, types in _CALLS.items():
         function = getattr(library, f"ticklocust_{call}")
         function.argtypes, function.restype = types, c_uint32
@@ -189,11 +206,11 @@ def _call(name: str, *words: Any) -> None:
         raise Refused(number)
 
 
-# Numbers and buffers, as the C interface wants them.
+# Numbers and buffers in the form of the C interface.
 
 
 def _whole(name: str, value: int) -> int:
-    """A number for 32 bits. One that is too large becomes the largest, which is refused alike."""
+    """A number of 32 bits. A larger one becomes the largest, which is refused in the same way."""
     value = operator.index(value)
     if value < 0:
         raise ValueError(f"{name} is negative: {value}")
@@ -207,7 +224,7 @@ def _microdegrees(value: Latitude | Longitude, kind: type) -> int:
 
 
 class _Py_buffer(ctypes.Structure):
-    """CPython's view of a buffer, which has been the same since 3.3."""
+    """CPython's view of a buffer, unchanged since 3.3."""
 
     _fields_ = [
         ("buf", c_void_p), ("obj", c_void_p), ("len", ctypes.c_ssize_t),
@@ -243,7 +260,7 @@ def _written(name: str, buffer: WriteableBuffer, element: tuple[str, int] = _BYT
 
 @contextmanager
 def _lend(*lent: _Lent) -> Iterator[list[tuple[int, int]]]:
-    """The pointer and the length of each buffer, which stays where it is meanwhile."""
+    """The pointer and the length of each buffer, which can't be moved or resized meanwhile."""
     views: list[_Py_buffer] = []
     try:
         for _, buffer, _, written in lent:
@@ -271,9 +288,9 @@ def _slice(lent: _Lent, view: _Py_buffer) -> tuple[int, int]:
     format = (view.format or b"B").decode().lstrip("@=<")
     if format not in ("B", "b", "c", letter) or view.itemsize not in (1, size):
         raise TypeError(f"{lent.name} has elements '{format}', not '{letter}' or bytes")
-    # Bytes that end within an element are none, and are refused by their length.
+    # Bytes that end within an element count as length 0, which is refused.
     length = 0 if view.len % size else view.len // size
-    # An empty buffer may begin anywhere, also nowhere.
+    # An empty buffer may have a null pointer.
     pointer = view.buf if length else ctypes.addressof(_nowhere)
     if pointer % size:
         raise ValueError(f"{lent.name} does not begin at a multiple of {size} bytes")
@@ -316,7 +333,7 @@ def code(level: int, start: int, to: int) -> int:
 
 
 def touching(level: int, cell: int) -> tuple[int, ...]:
-    """The cells that touch a cell, rising by number. Level 0 to 14. Refused: 1, 4."""
+    """The cells that touch a cell, in ascending order. Level 0 to 14. Refused: 1, 4."""
     cells, count = (c_uint32 * _TOUCHING)(), c_uint32()
     words = _whole("level", level), _whole("cell", cell)
     _call("touching", *words, ctypes.addressof(cells), _TOUCHING, byref(count))
@@ -329,7 +346,7 @@ def touching(level: int, cell: int) -> tuple[int, ...]:
 def border_read(
     stored: ReadableBuffer, cells: WriteableBuffer | None = None
 ) -> tuple[int, memoryview]:
-    """Reads a stored border into the front of `cells` and gives its level and that front.
+    """Reads a stored border into the first places of `cells`; returns its level and these places.
     Refused: for the level 10 or 11, then 1; for the start cell 10 or 11, then 4; for the number of
     codes 10 or 11, then 9; then 10, 12, 5, 7."""
     cells = array("I", bytes(4 * _MOST_CELLS)) if cells is None else cells
@@ -342,8 +359,8 @@ def border_read(
 def border_write(
     level: int, cells: ReadableBuffer, stored: WriteableBuffer | None = None
 ) -> memoryview:
-    """Writes a border in its stored form into the front of `stored` and gives that front. Level 0
-    to 14. Refused: 1, 5 (no cells), 9, 4, 7, 5 (`stored` too short)."""
+    """Writes a border in its stored form into the first bytes of `stored`; returns these bytes.
+    Level 0 to 14. Refused: 1, 5 (no cells), 9, 4, 7, 5 (`stored` is too short)."""
     stored = bytearray(_MOST_BYTES) if stored is None else stored
     length = c_uint32()
     with _lend(_read("cells", cells, _WORDS), _written("stored", stored)) as (a, b):
@@ -375,8 +392,8 @@ def grow(
     out: WriteableBuffer | None = None,
     work: WriteableBuffer | None = None,
 ) -> WriteableBuffer:
-    """The mask of the cells at most `rings` touching steps from a marked one, 0 to 64; `work` holds
-    zeros afterwards. Level 0 to 8. Refused: 1, 5, 6."""
+    """The mask of the cells at most `rings` touching steps, 0 to 64, from a marked cell; `work`
+    holds zeros afterwards. Level 0 to 8. Refused: 1, 5, 6."""
     return _rings("grow", level, rings, mask, out, work)
 
 
@@ -387,15 +404,15 @@ def shrink(
     out: WriteableBuffer | None = None,
     work: WriteableBuffer | None = None,
 ) -> WriteableBuffer:
-    """The mask of the cells from which every cell within `rings` touching steps is marked, 0 to 64;
-    `work` holds zeros afterwards. Level 0 to 8. Refused: 1, 5, 6."""
+    """The mask of the cells from which every cell within `rings` touching steps, 0 to 64, is
+    marked; `work` holds zeros afterwards. Level 0 to 8. Refused: 1, 5, 6."""
     return _rings("shrink", level, rings, mask, out, work)
 
 
 def join(
     level: int, a: ReadableBuffer, b: ReadableBuffer, out: WriteableBuffer | None = None
 ) -> WriteableBuffer:
-    """The mask of the cells marked in either. Level 0 to 8. Refused: 1, 5."""
+    """The mask of the cells marked in `a` or in `b`. Level 0 to 8. Refused: 1, 5."""
     out = _like(a) if out is None else out
     with _lend(_read("a", a), _read("b", b), _written("out", out)) as (first, second, third):
         _call("join", _whole("level", level), *first, *second, *third)
@@ -422,7 +439,7 @@ def fill(
     level: int, border: ReadableBuffer, outside: int, out: WriteableBuffer | None = None
 ) -> WriteableBuffer:
     """The mask of the cells that the outside cell can't reach by direct steps through unmarked
-    cells, so the border too. Level 0 to 8. Refused: 1, 4, 5, 8."""
+    cells, the border included. Level 0 to 8. Refused: 1, 4, 5, 8."""
     out = _like(border) if out is None else out
     with _lend(_read("border", border), _written("out", out)) as (a, b):
         _call("fill", _whole("level", level), *a, _whole("outside", outside), *b)
@@ -435,12 +452,15 @@ def fill(
 def reading(
     level: int, cell: int, temperatures: ReadableBuffer, ages: ReadableBuffer
 ) -> Reading:
-    """What a chart says of a cell. Level 0 to 8. Refused: 1, 4, 5."""
+    """What a chart says about a cell: fresh at age 0, carried at ages 1 to 30, and a gap if the age
+    is above 30 or the temperature is not in range, -5.0 to 45.0; NaN is not. Level 0 to 8.
+    Refused: 1, 4, 5."""
     kind, temperature, days = c_uint32(), c_float(), c_uint32()
     words = _whole("level", level), _whole("cell", cell)
     with _lend(_read("temperatures", temperatures, _FLOATS), _read("ages", ages)) as (a, b):
         _call("reading", *words, *a, *b, byref(kind), byref(temperature), byref(days))
     if kind.value == 2:
+        # The temperature is a NaN and the days are 255; neither is passed on.
         return Reading(Kind.GAP, None, None)
     return Reading((Kind.FRESH, Kind.CARRIED)[kind.value], temperature.value, days.value)
 
@@ -453,9 +473,9 @@ def day(
     temperatures: WriteableBuffer,
     ages: WriteableBuffer,
 ) -> Summary:
-    """One day of a chart, `temperatures` and `ages`, which it rewrites: new temperatures, the mask
-    of the clouded cells, and for how many days, 0 to 30, a temperature is carried. Level 0 to 8.
-    Refused: 1, 5, 6."""
+    """One day of a chart, `temperatures` and `ages`, which are rewritten: new temperatures, the
+    mask of the clouded cells, and `limit`, the number of days, 0 to 30, for which a temperature is
+    carried. Level 0 to 8. Refused: 1, 5, 6."""
     number, coldest, warmest = c_uint32(), c_float(), c_float()
     lent = (
         _read("news", news, _FLOATS),

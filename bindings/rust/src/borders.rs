@@ -7,11 +7,11 @@ use crate::{raw, Refusal};
 pub struct Border<'a> {
     /// The level of the cells, 0 to 14.
     pub level: u32,
-    /// The cells, at least one; the front of the slice that was lent.
+    /// The cells, at least one: the first places of the slice that was passed.
     pub cells: &'a [u32],
 }
 
-/// Reads a stored border into the front of `cells`, whose rest stays.
+/// Reads a stored border into the first places of `cells`; the others stay as they were.
 /// [`MAX_BORDER_CELLS`](crate::MAX_BORDER_CELLS) places are enough for every border.
 ///
 /// # Errors
@@ -33,12 +33,13 @@ pub fn border_read<'a>(bytes: &[u8], cells: &'a mut [u32]) -> Result<Border<'a>,
     Ok(Border { level, cells: &cells[..count as usize] })
 }
 
-/// Writes a border in its stored form into the front of `bytes`, whose rest stays, and answers that
-/// front. [`MAX_BORDER_BYTES`](crate::MAX_BORDER_BYTES) are enough for every border. Level 0 to 14.
+/// Writes a border in its stored form into the first bytes of `bytes` and returns those; the others
+/// stay as they were. [`MAX_BORDER_BYTES`](crate::MAX_BORDER_BYTES) are enough for every border.
+/// Level 0 to 14.
 ///
 /// # Errors
 ///
-/// Refused by 1, 5 where there are no cells, 9, 4, 7, 5 where the bytes are too few.
+/// Refused by 1, 5 (no cells), 9, 4, 7, 5 (`bytes` is too short).
 ///
 /// ```
 /// use ticklocust::{border_write, Refusal};

@@ -1,11 +1,12 @@
-//! Charts: a temperature and an age for each cell. A chart of level 0 to 8 is
-//! [`chart_len`](crate::chart_len) temperatures, 8 × 4^level, and as many ages.
+//! Charts: a temperature in degrees Celsius and an age in days for each cell. A chart of level 0 to
+//! 8 is [`chart_len`](crate::chart_len) temperatures, 8 × 4^level, and as many ages.
 
 use std::fmt;
 
 use crate::{raw, Refusal};
 
-/// What a chart says of a cell. There is no way to its temperature but by its kind.
+/// What a chart says about a cell, in degrees Celsius. The temperature can only be reached through
+/// the kind of reading, and a gap has none.
 ///
 /// ```
 /// use ticklocust::Reading;
@@ -16,11 +17,11 @@ use crate::{raw, Refusal};
 /// ```
 #[derive(Clone, Copy, Debug, PartialEq)]
 pub enum Reading {
-    /// Seen on the last day, at this temperature.
+    /// This temperature, observed on the last day.
     Fresh(f32),
-    /// Last seen at this temperature, so many days ago, 1 to 30.
+    /// This temperature, last observed this many days ago, 1 to 30.
     Carried(f32, u8),
-    /// Nothing is known.
+    /// No temperature is known.
     Gap,
 }
 
@@ -37,19 +38,20 @@ impl fmt::Display for Reading {
     }
 }
 
-/// The fresh cells of the chart that a day leaves.
+/// The fresh cells of a chart after a day. If no cell is fresh, `count` is 0 and both temperatures
+/// are 0.0.
 #[derive(Clone, Copy, Debug, PartialEq)]
 pub struct Summary {
     /// How many cells are fresh.
     pub count: u32,
-    /// The lowest temperature of a fresh cell; 0.0 where there is none.
+    /// The lowest temperature of a fresh cell, in degrees Celsius.
     pub coldest: f32,
-    /// The highest temperature of a fresh cell; 0.0 where there is none.
+    /// The highest temperature of a fresh cell, in degrees Celsius.
     pub warmest: f32,
 }
 
-/// The reading of a cell: fresh at age 0, carried at ages 1 to 30, and a gap at an age above 30 or
-/// where the temperature is not in range, -5.0 to 45.0.
+/// The reading of a cell: fresh at age 0, carried at ages 1 to 30, and a gap if the age is above 30
+/// or the temperature is not in range, -5.0 to 45.0. NaN is not in range.
 ///
 /// # Errors
 ///
@@ -77,13 +79,15 @@ pub fn reading(
         (0, temperature, _) => Reading::Fresh(temperature),
         // Days are 1 to 30.
         (1, temperature, days) => Reading::Carried(temperature, days as u8),
+        // The temperature is a NaN and the days are 255; neither is passed on.
         _ => Reading::Gap,
     })
 }
 
-/// One day of a chart, which it rewrites. A cell that `cloud` doesn't mark and whose temperature in
-/// `news` is in range takes it, at age 0. Any other is carried one day on, up to `limit` days, 0 to
-/// 30, and is a gap from then on (temperature 0.0, age 255).
+/// One day of a chart, which is rewritten. A cell that `cloud` doesn't mark and whose temperature
+/// in `news` is in range takes that temperature, at age 0. Any other cell keeps its temperature and
+/// becomes one day older; past `limit` days, 0 to 30, or if its temperature is not in range, it
+/// becomes a gap (temperature 0.0, age 255).
 ///
 /// # Errors
 ///

@@ -1,11 +1,11 @@
-//! Masks: one bit a cell. A mask of level 0 to 8 is [`mask_len`](crate::mask_len) bytes, 4^level;
+//! Masks: one bit per cell. A mask of level 0 to 8 is [`mask_len`](crate::mask_len) bytes, 4^level;
 //! cell c is bit c mod 8, low bit first, of byte c / 8.
 
 use crate::{raw, Refusal};
 
-/// Grows a mask: `out` marks the cells at most `rings` touching steps from a marked cell, past
-/// every octant's edge. Rings 0 to 64. `out` and `work` may hold anything before; `work` holds
-/// zeros afterwards. All three are masks of the level.
+/// Grows a mask: `out` marks the cells at most `rings` touching steps from a marked cell, also
+/// across the edges of octants. Rings 0 to 64. `out` and `work` may hold anything before; `work`
+/// holds zeros afterwards. All three are masks of the level.
 ///
 /// # Errors
 ///
@@ -85,12 +85,12 @@ pub fn count(level: u32, mask: &[u8]) -> Result<u32, Refusal> {
     raw::count(level, mask)
 }
 
-/// Whether a mask is within another.
+/// Whether one mask is within another.
 #[derive(Clone, Copy, Debug, PartialEq, Eq, Hash)]
 pub enum Within {
-    /// Every cell of the first is a cell of the second.
+    /// Every cell marked in the first is marked in the second.
     Yes,
-    /// This is the lowest cell that is marked in the first and not in the second.
+    /// The lowest cell that is marked in the first and not in the second.
     Lacking(u32),
 }
 
@@ -114,7 +114,7 @@ pub fn within(level: u32, a: &[u8], b: &[u8]) -> Result<Within, Refusal> {
 }
 
 /// Fills a region: `out` marks the cells that the outside cell can't reach by direct steps through
-/// unmarked cells of `border`, so the border too.
+/// unmarked cells of `border`, the border included.
 ///
 /// # Errors
 ///

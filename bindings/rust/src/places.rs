@@ -7,7 +7,7 @@ use crate::{raw, Refusal};
 
 /// A latitude in millionths of a degree, -90,000,000 to 90,000,000; south is negative.
 ///
-/// Shown, it is its number. It is a type of its own, so it can't be given for a longitude:
+/// It is displayed as its number. It is a separate type, so it can't be passed as a longitude:
 ///
 /// ```compile_fail,E0308
 /// use ticklocust::{cell_at, Latitude};
@@ -19,7 +19,7 @@ pub struct Latitude(pub i32);
 
 /// A longitude in millionths of a degree, -180,000,000 to 179,999,999; west is negative.
 ///
-/// Shown, it is its number. It is a type of its own, so it can't be given for a latitude:
+/// It is displayed as its number. It is a separate type, so it can't be passed as a latitude:
 ///
 /// ```compile_fail,E0308
 /// use ticklocust::{cell_at, Longitude};
@@ -41,7 +41,7 @@ impl fmt::Display for Longitude {
     }
 }
 
-/// The letters of the codes 0 to 7. `t`, `l`, `r`, `e` and `w` stay in the octant; `T`, `E` and
+/// The letters of the codes 0 to 7. `t`, `l`, `r`, `e` and `w` stay within the octant; `T`, `E` and
 /// `W` cross its edge.
 ///
 /// ```
@@ -116,7 +116,7 @@ pub fn code(level: u32, from: u32, to: u32) -> Result<u32, Refusal> {
     raw::code(level, from, to)
 }
 
-/// The cells that touch a cell, rising by number: a list of 6, 10 or 12.
+/// The cells that touch a cell, in ascending order: 6, 10 or 12 of them.
 #[derive(Clone, Copy, Debug, PartialEq, Eq)]
 pub struct Touching {
     cells: [u32; 12],
@@ -131,8 +131,8 @@ impl Deref for Touching {
     }
 }
 
-/// The cells that touch a cell: those that have a point in common with it, over the meridians
-/// between octants, over the equator and around the poles too. Level 0 to 14.
+/// The cells that touch a cell: those that have a point in common with it, also across the
+/// meridians between octants, across the equator and around the poles. Level 0 to 14.
 ///
 /// # Errors
 ///

@@ -1,11 +1,11 @@
 //! The calls of `include/ticklocust.h`: the crate's only unsafe code.
 //!
-//! What the header asks of a caller is met in the same way by every call below:
-//! - A slice goes as its pointer, which is aligned and never null, with its own length.
-//! - What is written is given by `&mut` or is a word of the frame, so it overlaps nothing else
-//!   that is given, and nobody else reads or writes it until the call returns; what is read is
-//!   given by `&`, so nobody writes it meanwhile.
-//! - The declarations have the header's types; every bit pattern of theirs is a value in Rust too.
+//! Every call below meets the header's requirements in the same way:
+//! - A slice is passed as its pointer, which is aligned and never null, and its own length.
+//! - What is written is behind a `&mut` or is a local variable, so it overlaps nothing else that is
+//!   passed, and no other thread uses it until the call returns; what is read is behind a `&`, so
+//!   no other thread writes it.
+//! - The declarations have the header's types; every bit pattern of these is a value in Rust too.
 
 #![allow(unsafe_code)]
 
@@ -148,7 +148,7 @@ pub fn count(level: u32, mask: &[u8]) -> Result<u32, Refusal> {
     answer(said, count)
 }
 
-/// Answers u32::MAX where no cell lacks.
+/// Answers u32::MAX when every cell of a is in b.
 #[rustfmt::skip]
 pub fn within(level: u32, a: &[u8], b: &[u8]) -> Result<u32, Refusal> {
     let mut lacking = 0;
@@ -168,7 +168,7 @@ pub fn fill(level: u32, border: &[u8], outside: u32, out: &mut [u8]) -> Result<(
     answer(said, ())
 }
 
-/// Answers kind, temperature and days.
+/// Answers kind, temperature and days; of a gap 2, a NaN and 255.
 #[rustfmt::skip]
 pub fn reading(level: u32, cell: u32, temperatures: &[f32], ages: &[u8])
     -> Result<(u32, f32, u32), Refusal> {

@@ -5,8 +5,8 @@ use std::fmt;
 
 /// Why a call was refused. A refused call has written nothing.
 ///
-/// [`number`](Refusal::number) is the number of document 01's table, which every language and
-/// program of the project passes on; shown, a refusal is a plain sentence.
+/// [`number`](Refusal::number) is the number in document 01's table: one for each refusal, the same
+/// in every language and program of the project. It is displayed as a sentence.
 ///
 /// ```
 /// use ticklocust::Refusal;
@@ -30,11 +30,12 @@ pub enum Refusal {
     Longitude = 3,
     /// 4: the cell number is not below 8 × 4^level.
     Cell = 4,
-    /// 5: a slice is not of its exact length; for borders, too short, or no cells.
+    /// 5: a slice is not of the exact length; for borders, too short, or no cells.
     Length = 5,
     /// 6: rings above 64, or days above 30.
     Count = 6,
-    /// 7: no such step: code above 7, code absent there, or two cells that no code joins.
+    /// 7: no such step: code above 7, code that the cell doesn't have, or two cells that no code
+    /// joins.
     Step = 7,
     /// 8: the outside cell is marked.
     Outside = 8,
@@ -42,14 +43,14 @@ pub enum Refusal {
     Codes = 9,
     /// 10: the bytes end early.
     Short = 10,
-    /// 11: a stored number is not in its form.
+    /// 11: a stored number is not in its stored form.
     Form = 11,
-    /// 12: pad bits not zero, or bytes left over.
+    /// 12: pad bits are not zero, or bytes are left over.
     Rest = 12,
 }
 
 impl Refusal {
-    /// All refusals, by number.
+    /// All refusals, in the order of their numbers.
     pub const ALL: [Refusal; 12] = [
         Refusal::Level,
         Refusal::Latitude,
@@ -65,13 +66,13 @@ impl Refusal {
         Refusal::Rest,
     ];
 
-    /// The number of document 01's table, 1 to 12.
+    /// The number in document 01's table, 1 to 12.
     #[must_use]
     pub const fn number(self) -> u32 {
         self as u32
     }
 
-    /// The refusal of a number, if there is one.
+    /// The refusal with a number, if there is one.
     ///
     /// ```
     /// use ticklocust::Refusal;

@@ -15,7 +15,7 @@ use Rattle.border.proofs.Walks.{walked-length}
 use Rattle.border.proofs.Laws as border
 use Rattle.text.specs.Text.{decimal, appended}
 use Rattle.text.proofs.Laws.{Written, written-none, written-more, spelled-short}
-use Rattle.cell_lister.specs.CellLister.{lines, levelWord, levelLine, listed, output}
+use Rattle.cell_lister.specs.CellLister.{lines, levelWord, levelLine, listed, output, frontBytes}
 
 -- ---- lines
 
@@ -84,6 +84,6 @@ few-cells bs out cells k n e =
       r .fits,
     )
 
--- the first 1,545 bytes are listed as all are
-pub front-decides : (input : List ℕ) → output (take 1545 input) ≡ output input
+-- the first bytes are listed as all are
+pub front-decides : (input : List ℕ) → output (take frontBytes input) ≡ output input
 front-decides input = ap listed (border.front-decides input (replicate 4097 0))

@@ -27,3 +27,7 @@ listed (refused i, cells) = refusalLine i
 -- what is printed; a border has at most 4,097 cells, so the slice is never too short
 abbrev pub output : List ℕ → List ℕ
 output input = listed (readBorder input (replicate 4097 0))
+
+-- the first bytes of the input, which decide what is printed: one more than the longest border has
+abbrev pub frontBytes : ℕ
+frontBytes = 1545

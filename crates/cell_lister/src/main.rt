@@ -1,16 +1,19 @@
 // The cell lister of document 01, "Two programs": reads a stored border from standard input and prints its level and its cells, a line each, or the
 // number by which it is refused.
-ghost use Prim.Native.Nat.{_≤_};
+ghost use Prim.Native.Nat.{ℕ, _≤_};
 ghost use mathlib.Core.Path.{_≡_};
-ghost use mathlib.Core.List.{_++_};
+ghost use mathlib.Core.List.{List, _++_};
 ghost use lib.ListN.{length, take};
 ghost use Rattle.io.specs.Counts.{Counts};
-ghost use Rattle.cell_lister.specs.CellLister.{levelLine, lines, output};
+ghost use Rattle.cell_lister.specs.CellLister.{levelLine, lines, output, frontBytes};
 use border_reader::BorderAnswer;
 use cell::CellNumber;
 
 // The bytes of the longest output: `level`, a space, a line end, and 4,097 lines, with 20 digits to a number.
 const OUTPUT: usize = 86064;
+
+// The bytes that are read: one more than the longest border has, so that a longer input is seen to be longer.
+const FRONT: usize = 1545;
 
 // Puts a level and cells into a slice, a line each, and answers the length.
 fn put_cells(level: u32, cells: &[CellNumber], count: usize, out: &mut [u8]) -> usize
@@ -42,11 +45,19 @@ fn output_of(input: &[u8], out: &mut [u8; OUTPUT]) -> usize
     }
 }
 
-// Reads one byte more than the longest border has, so that a longer input is seen to be longer.
+// The same for every input of which `front` holds the first bytes, n of them: all of it, or as many as are read.
+fn output_of_front(front: &[u8], n: usize, out: &mut [u8; OUTPUT]) -> usize
+    requires { ⌜ (length (now front) ≡ frontBytes) × (n ≤ frontBytes) ⌝ }
+    ensures fits { λ r. ⌜ Counts r (now (out .exit)) ⌝ }
+    ensures text { λ r. ⌜ ((input : List ℕ) → take frontBytes input ≡ take n (now (front .entry)) → take r (now (out .exit)) ≡ output input) ⌝ }
+{
+    output_of(&front[..n], out)
+}
+
 fn main() {
-    let mut input = [0u8; 1545];
-    let n = io::read_full(libc::STDIN_FILENO, &mut input);
+    let mut front = [0u8; FRONT];
+    let n = io::read_full(libc::STDIN_FILENO, &mut front);
     let mut out = [0u8; OUTPUT];
-    let k = output_of(&input[..n], &mut out);
+    let k = output_of_front(&front, n, &mut out);
     io::write_all(libc::STDOUT_FILENO, &out[..k]);
 }

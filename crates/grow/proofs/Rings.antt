@@ -3,16 +3,17 @@ use Prim.Native.Nat.{ℕ, _+_, _-_, _≤_, _^_}
 use mathlib.Core.Path.{_≡_, sym, ap, subst, _∙_}
 use mathlib.Core.Bool.{Bool, true, false, _&&_, cond}
 use mathlib.Core.List.{List}
-use borrow.Author.Tests.{le-leb, eq-eqb}
-use lib.Dec.{leb, eqb}
+use native.Mathlib.Omega.{arith}
+use borrow.Author.Tests.{leb-true, le-leb, eq-eqb}
+use lib.Dec.{leb, ltb, eqb}
 use lib.ListN.{length}
-use Rattle.refusal.proofs.Tests.{both}
+use Rattle.refusal.proofs.Tests.{both, parts}
 use Rattle.bitset.specs.Bits.{Bytes, marked, bytesOf}
 use Rattle.bitset.proofs.Laws.{settled, bytesOf-cong}
-use Rattle.cell.specs.Cell.{up, down, cells}
+use Rattle.cell.specs.Cell.{up, down, span, cells}
 use Rattle.corner.specs.Corner.{touches}
 use Rattle.mask.proofs.Reach.{grown-zero, grown-grown}
-use Rattle.rows.specs.Rows.{lit, inside}
+use Rattle.rows.specs.Rows.{lit, octantAt, rowAt, colAt, inside}
 use Rattle.raster.specs.Raster.{isMask, cellAt, cellLit}
 use Rattle.seam.specs.Seam.{joined}
 use Rattle.seam.proofs.Laws.{joined-stays}
@@ -29,6 +30,17 @@ past-test t P Q R e f i = f i ∙ ap (λ (b : Bool). cond b (Q i) (R i)) e
 -- past the rows is no point of a level
 not-inside : (k : ℕ) → k ≤ 8 → (i : ℕ) → inRows i ≡ false → inside k i ≡ false
 not-inside k h i e = past-rows k (inside k) h (λ j p. p) i e
+
+-- the spot of a down cell is that of a point
+cell-inside : (k : ℕ) (A : ℕ → Bool) (i : ℕ) → cellAt down k A i ≡ true → inside k i ≡ true
+unfolding cellAt inside span
+cell-inside k A i e =
+    let o = ltb (octantAt i) 8 in
+    let s = leb (rowAt i + colAt i + 2) (2 ^ k) in
+    let p = parts (leb 640 i) (o && s) (parts (leb 640 i && (o && s)) _ e .0) in
+    let q = parts o s (p .1) in
+    let l = leb-true (rowAt i + colAt i + 2) (2 ^ k) (q .1) in
+    both (leb 640 i) _ (p .0) (both o _ (q .0) (le-leb (rowAt i + colAt i) (2 ^ k) (omega arith)))
 
 module _ (k : ℕ) (h : k ≤ 8) where
   -- ---- one ring
@@ -67,6 +79,13 @@ module _ (k : ℕ) (h : k ≤ 8) where
         (past-test (isMask k a) U′ (cellAt up k (marked a)) U mask-fits us)
         (past-test (isMask k a) D′ (cellAt down k (marked a)) D mask-fits ds) ps (λ i e. z i))
         P″ (past-test (leb k 8) P″ (joined k P′) P′ (le-leb k 8 h) js)
+
+    -- past the rows no cell is set
+    pub cells-clear : (D D′ : ℕ → Bool) → ((i : ℕ) → D′ i ≡ cond (isMask k a) (cellAt down k (marked a) i) (D i)) →
+        (i : ℕ) → inRows i ≡ false → D′ i ≡ false
+    cells-clear D D′ ds =
+        past-rows k D′ h (λ i e.
+        cell-inside k (marked a) i (sym (past-test (isMask k a) D′ (cellAt down k (marked a)) D mask-fits ds i) ∙ e))
 
     -- ---- the end: the cells that have a point, as a mask
 

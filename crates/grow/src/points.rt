@@ -21,23 +21,28 @@ fn ring(level: u32, points: &[u64; 10330], within: &[u64; 10330], next: &mut [u6
     seam::join_seams(level, next);
 }
 
-// As many rings: two at a time, to the other array and back.
-fn more_rings(level: u32, rings: u32, points: &mut [u64; 10330])
-    requires { ⌜ (level ≤ maxMaskLevel) × ((i : ℕ) → inRows i ≡ false → lit (now points) i ≡ false) ⌝ }
+// As many rings: two at a time, to the other array and back. `within` and `next` are lent for working, so that no more than three arrays are on the
+// stack.
+fn more_rings(
+    level: u32,
+    rings: u32,
+    points: &mut [u64; 10330],
+    within: &mut [u64; 10330],
+    next: &mut [u64; 10330],
+)
+    requires { ⌜ (level ≤ maxMaskLevel) × ((i : ℕ) → inRows i ≡ false → lit (now points) i ≡ false) × ((i : ℕ) → inRows i ≡ false → lit (now next) i ≡ false) ⌝ }
     ensures { λ _. ⌜ ((A : ℕ → Bool) → Points level (lit (now (points .entry))) A → Points level (lit (now (points .exit))) (grownCells level rings A)) ⌝ }
 {
-    let mut within = [0u64; 10330];
-    let mut next = [0u64; 10330];
-    stencil::mark_inside(level, &mut within);
+    stencil::mark_inside(level, within);
     let mut left = rings;
     while 1 < left {
-        ring(level, points, &within, &mut next);
-        ring(level, &next, &within, points);
+        ring(level, points, within, next);
+        ring(level, next, within, points);
         left -= 2;
     }
     if left == 1 {
-        ring(level, points, &within, &mut next);
-        *points = next;
+        ring(level, points, within, next);
+        *points = *next;
     }
 }
 
@@ -55,7 +60,7 @@ pub(crate) fn spread(level: u32, rings: u32, mask: &mut [u8])
     raster::to_rows(level, mask, &mut up, &mut down);
     stencil::points_of(&up, &down, &mut points);
     seam::join_seams(level, &mut points);
-    more_rings(level, rings - 1, &mut points);
+    more_rings(level, rings - 1, &mut points, &mut up, &mut down);
     stencil::cells_of(&points, &mut up, &mut down);
     raster::from_rows(level, &up, &down, mask);
 }

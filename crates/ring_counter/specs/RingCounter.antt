@@ -32,6 +32,10 @@ line (refused n) = refusalLine n
 abbrev pub output : List ℕ → List ℕ
 output input = line (ringCounts input)
 
+-- the first bytes of the input, which decide what is printed: one more than it may have
+abbrev pub frontBytes : ℕ
+frontBytes = 1026
+
 -- what the code's outcome says
 abbrev pub saidOutcome : Outcome → Answer (ℕ × ℕ)
 saidOutcome (outcome.Counts before after) = given (before, after)

@@ -1,14 +1,15 @@
 // The ring counter of document 01, "Two programs": reads one byte of rings and one mask of level 5 from standard input, nothing after, and prints
 // how many cells are marked before and after growing, or the number by which it is refused.
+ghost use Prim.Native.Nat.{ℕ, _≤_};
 ghost use mathlib.Core.Path.{_≡_};
 ghost use lib.ListN.{length, take};
 ghost use Rattle.refusal.specs.Answer.{inOrder};
 ghost use Rattle.io.specs.Counts.{Counts};
 ghost use Rattle.bitset.specs.Bits.{marked, size};
 ghost use Rattle.cell.specs.Cell.{cells};
-ghost use mathlib.Core.List.{[], _∷_};
+ghost use mathlib.Core.List.{List, [], _∷_};
 ghost use Rattle.grow.specs.Grow.{badRings};
-ghost use Rattle.ring_counter.specs.RingCounter.{counts, ringCounts, line, output, saidOutcome};
+ghost use Rattle.ring_counter.specs.RingCounter.{counts, ringCounts, line, output, saidOutcome, frontBytes};
 use grow::RingsAnswer;
 use mask::CountAnswer;
 
@@ -16,6 +17,9 @@ const LEVEL: u32 = 5;
 
 // The bytes of the input, one of rings and a mask.
 const INPUT: usize = 1025;
+
+// The bytes that are read: one more than the input may have, so that a longer one is seen to be longer.
+const FRONT: usize = 1026;
 
 // The cells marked before growing and after it, or the number by which the input is refused.
 enum Outcome {
@@ -82,11 +86,19 @@ fn output_of(input: &[u8], out: &mut [u8; 64]) -> usize
     put_line(outcome_of(input), out)
 }
 
-// Reads one byte more than the input may have, so that a longer one is seen to be longer.
+// The same for every input of which `front` holds the first bytes, n of them: all of it, or as many as are read.
+fn output_of_front(front: &[u8], n: usize, out: &mut [u8; 64]) -> usize
+    requires { ⌜ (length (now front) ≡ frontBytes) × (n ≤ frontBytes) ⌝ }
+    ensures fits { λ r. ⌜ Counts r (now (out .exit)) ⌝ }
+    ensures text { λ r. ⌜ ((input : List ℕ) → take frontBytes input ≡ take n (now (front .entry)) → take r (now (out .exit)) ≡ output input) ⌝ }
+{
+    output_of(&front[..n], out)
+}
+
 fn main() {
-    let mut input = [0u8; 1026];
-    let n = io::read_full(libc::STDIN_FILENO, &mut input);
+    let mut front = [0u8; FRONT];
+    let n = io::read_full(libc::STDIN_FILENO, &mut front);
     let mut out = [0u8; 64];
-    let k = output_of(&input[..n], &mut out);
+    let k = output_of_front(&front, n, &mut out);
     io::write_all(libc::STDOUT_FILENO, &out[..k]);
 }

@@ -1,9 +1,7 @@
 -- How an answer crosses to C: a number returned, 0 when the call is accepted and else the refusal's, and values written through pointers only when
 -- it is accepted.
 use Prim.Native.Nat.{ℕ}
-use mathlib.Core.Bool.{false}
-use lib.IntN.{pos}
-use lib.Ieee.{Float, fin}
+use lib.Ieee.{Float, nan}
 use Rattle.refusal.specs.Answer.{Answer, given, refused}
 use Rattle.mask.specs.Mask.{Inclusion, within, lacks}
 use Rattle.chart.specs.Chart.{Reading, fresh, carried, gap}
@@ -30,13 +28,13 @@ abbrev pub inC : {A B : Type 0} → (A → B) → Answer A → Answer B
 inC f (given a) = given (f a)
 inC f (refused n) = refused n
 
--- within as one number: the lowest cell that lacks, or 4,294,967,295
+-- within as one number: the lowest cell that is in the first mask and not in the second, or 4,294,967,295
 abbrev pub lackingCell : Inclusion → ℕ
 lackingCell within = 4294967295
 lackingCell (lacks c) = c
 
--- a reading as kind, temperature and days: 0 fresh, 1 carried, 2 gap
+-- a reading as kind, temperature and days: 0 fresh, 1 carried, 2 gap, which has a NaN and 255 days
 abbrev pub kindTemperatureDays : Reading → ℕ × Float × ℕ
 kindTemperatureDays (fresh t) = (0, t, 0)
 kindTemperatureDays (carried t days) = (1, t, days)
-kindTemperatureDays gap = (2, fin false 0 (pos 0), 0)
+kindTemperatureDays gap = (2, nan, 255)

@@ -12,6 +12,9 @@ const CARRIED: u32 = 1;
 
 const GAP: u32 = 2;
 
+// The days of a gap: more than any temperature is carried.
+const NO_DAYS: u32 = 255;
+
 #[no_mangle]
 pub extern "C" fn ticklocust_reading(
     level: u32,
@@ -41,8 +44,9 @@ pub extern "C" fn ticklocust_reading(
         }
         ReadingAnswer::Gap => {
             *kind = GAP;
-            *temperature = 0.0;
-            *days = 0;
+            // A NaN: a caller who doesn't test the kind gets no temperature either. A constant can't be a NaN.
+            *temperature = 0.0 / 0.0;
+            *days = NO_DAYS;
             0
         }
         ReadingAnswer::Refused(n) => n as u32,

@@ -10,7 +10,7 @@ use mask::CountAnswer;
 use mask::JoinAnswer;
 use mask::WithinAnswer;
 
-// What `within` answers where no cell lacks.
+// What `within` answers when every cell of the first mask is in the second.
 const WITHIN: u32 = 4_294_967_295;
 
 #[no_mangle]

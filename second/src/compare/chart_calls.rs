@@ -26,7 +26,7 @@ pub fn readings(tally: &mut Tally, level: u32, cells: &[u32], chart: &Chart) {
         let answer = answer.map(|reading| match reading {
             Reading::Fresh(temperature) => [0, temperature.to_bits(), 0],
             Reading::Carried(temperature, days) => [1, temperature.to_bits(), days],
-            Reading::Gap => [2, 0.0f32.to_bits(), 0],
+            Reading::Gap => [2, library::SOME_NAN, 255],
         });
         let model = Outcome::model(answer, Vec::new());
         let library = library::reading(level, cell, &mut lent.temperatures, &mut lent.ages);

@@ -32,6 +32,9 @@ extern "C" {
     ) -> u32;
 }
 
+/// Stands for every NaN: which of them a gap reads is left open.
+pub const SOME_NAN: u32 = 0x7FC0_0000;
+
 /// The chart is not copied for each of its many readings; who calls this looks afterwards
 /// whether it still is what it was.
 pub fn reading(level: u32, cell: u32, temperatures: &mut [u32], ages: &mut [u8]) -> Outcome {
@@ -53,6 +56,9 @@ pub fn reading(level: u32, cell: u32, temperatures: &mut [u32], ages: &mut [u8])
             days,
         )
     };
+    if answers[0] == 2 && f32::from_bits(answers[1]).is_nan() {
+        answers[1] = SOME_NAN;
+    }
     Outcome::library(said, answers, Vec::new())
 }
 

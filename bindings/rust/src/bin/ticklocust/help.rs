@@ -20,15 +20,15 @@ Masks of cells
   fill           a border and what it encloses
 Charts of temperatures and their ages
   day            one day of a chart, or a folder of days
-  reading        what a chart says of a cell: fresh, carried or gap
+  reading        what a chart says about a cell: fresh, carried or gap
 
 ticklocust SUBCOMMAND --help says more of each.
 
 Files. A mask of level 0 to 8 is 4^level bytes; cell c is bit c mod 8, low bit first, of byte c / 8.
-A chart is two files: 8 x 4^level temperatures, 32-bit floats with the low byte first, and as many
-ages, a byte each. Their level follows from their length, or is given by --level. - is standard
-input or output. A file is written under a temporary name beside it and then renamed, so it is
-written whole or not at all; a device or a pipe is written as it is.
+A chart is two files: 8 x 4^level temperatures in degrees Celsius, 32-bit floats with the low byte
+first, and as many ages in days, a byte each. Their level follows from their length, or is given by
+--level. - is standard input or output. A file is written under a temporary name beside it and then
+renamed, so it is written whole or not at all; a device or a pipe is written as it is.
 
 Status. 0: done. 1: the call is refused; 'refused N: ...' is on standard error, with the number of
 the rules' table, and no file is touched. 2: a wrong word, or a file that can't be read or written.
@@ -67,8 +67,8 @@ to 14.
 pub const TOUCHING: &str = "\
 usage: ticklocust touching --level K CELL
 
-Prints the cells that have a point in common with a cell, one a line, rising by number: 6, 10 or
-12. The level is 0 to 14.
+Prints the cells that have a point in common with a cell, one per line, in ascending order: 6, 10
+or 12. The level is 0 to 14.
 ";
 
 pub const GROW: &str = "\
@@ -142,9 +142,10 @@ usage: ticklocust day --limit D NEWS CLOUD TEMPERATURES AGES [OPTIONS]
        ticklocust day --limit D FOLDER TEMPERATURES AGES [OPTIONS]
 
 Takes a chart, the files TEMPERATURES and AGES, through a day or through a folder of days. A cell
-that CLOUD doesn't mark and whose temperature in NEWS is in range, -5.0 to 45.0, is fresh. Another
-is carried a day on, up to D days, 0 to 30, and is a gap from then on. Prints how many cells are
-fresh, the coldest and the warmest; nothing where part of the chart goes to standard output.
+that CLOUD doesn't mark and whose temperature in NEWS is in range, -5.0 to 45.0 degrees Celsius, is
+fresh. Any other is carried for one more day, up to D days, 0 to 30, and is a gap from then on.
+Prints how many cells are fresh, the coldest and the warmest temperature; nothing if part of the
+chart goes to standard output.
 
 FOLDER has two files for each day, DAY.temperatures and DAY.cloud. The days are run in the order of
 their names, so 2026-03-09 comes before 2026-03-10. Where standard error is a terminal it shows how
@@ -165,6 +166,6 @@ the other; only if the machine stops between the two is one new and the other ol
 pub const READING: &str = "\
 usage: ticklocust reading CELL TEMPERATURES AGES [--level K]
 
-Prints what a chart says of a cell: 'fresh 21.0', 'carried 21.0, 3 days' or 'gap'. - is standard
-input, for one of the two.
+Prints what a chart says about a cell, in degrees Celsius: 'fresh 21.0', 'carried 21.0, 3 days' or
+'gap'. - is standard input, for one of the two.
 ";

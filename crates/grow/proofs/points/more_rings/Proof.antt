@@ -9,11 +9,9 @@ use Rattle.rows.specs.Rows.{lit, inside}
 use Rattle.stencil.specs.Stencil.{inRows}
 use Rattle.spread.specs.Spread.{Points}
 use Rattle.grow.specs.Grow.{grownCells}
-use Rattle.rows.proofs.Words.{lit-zeros}
 use Rattle.grow.proofs.Rings.{past-test, after, no-more, as-many}
 use borrow.Author.Tests.{le-leb}
 use lib.Dec.{leb}
-use lib.ListN.{replicate}
 use Rattle.grow.proofs.points.more_rings.Statement.{statement}
 use Rattle.grow.proofs.points.more_rings.Tie as tie
 
@@ -34,12 +32,12 @@ mark-inside-requires c κs = search needs
 within : (c : tie.After-mark-inside Inv-loop μ-loop) → (i : ℕ) → lit (c .mark-inside .last .1 .0) i ≡ inside (c .before .before .args .level) i
 within c =
     let s = c .before .before in
-    past-test (leb (s .args .level) 8) _ (inside (s .args .level)) (lit (replicate 10330 0)) (le-leb (s .args .level) 8 (s .pre .0)) (c .mark-inside .ensures)
+    past-test (leb (s .args .level) 8) _ (inside (s .args .level)) (lit (s .args .within .now)) (le-leb (s .args .level) 8 (s .pre .0)) (c .mark-inside .ensures)
 
 loop-holds : tie.Need-loop-holds Inv-loop μ-loop
 loop-holds c =
     let s = c .before .before in
-    ((0, omega arith, λ A p. no-more (s .args .level) A _ p), s .pre .1, λ i e. lit-zeros 10330 i)
+    ((0, omega arith, λ A p. no-more (s .args .level) A _ p), s .pre .1, s .pre .2)
 
 ring-requires : tie.Need-ring-requires Inv-loop μ-loop
 ring-requires c κs =
@@ -76,12 +74,13 @@ ring-requires-3 c κs =
 
 returns : tie.Need-returns Inv-loop μ-loop
 returns c A p =
-    let t = c .before .before .before .before in
+    let r = c .before in
+    let t = r .before .before .before .before in
     let l = t .before .before in
     let k = l .before .before .before .args .level in
     let d = l .loop .inv .0 in
     let e : 1 + d .0 ≡ l .before .before .before .args .rings = omega (arith, d .1, t .if1 .taken) in
-    as-many k (1 + d .0) _ A _ e (after k 1 (d .0) A _ (c .ring3 .ensures .0 (grownCells k (d .0) A) (d .2 A p)))
+    as-many k (1 + d .0) _ A _ e (after k 1 (d .0) A _ (r .ring3 .ensures .0 (grownCells k (d .0) A) (d .2 A p)))
 
 returns-2 : tie.Need-returns-2 Inv-loop μ-loop
 returns-2 c A p =

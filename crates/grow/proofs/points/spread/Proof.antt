@@ -10,7 +10,7 @@ use Rattle.rows.proofs.Words.{lit-zeros}
 use Rattle.spread.specs.Spread.{Points}
 use Rattle.spread.proofs.Cells.{past-rows}
 use Rattle.grow.specs.Grow.{grownCells}
-use Rattle.grow.proofs.Rings.{start, finish, none}
+use Rattle.grow.proofs.Rings.{start, cells-clear, finish, none}
 use Rattle.grow.proofs.points.spread.Statement.{statement}
 use Rattle.grow.proofs.points.spread.Tie as tie
 
@@ -49,8 +49,11 @@ first c =
 
 more-rings-requires : tie.Need-more-rings-requires
 more-rings-requires c κs =
-    let s = entry (in-rows (c .before)) in
-    (s .pre .0, past-rows (s .args .level) _ (s .pre .0) (first (c .before) .only))
+    let j = c .before .before .before in
+    let r = in-rows j in
+    let s = entry r in
+    let k = s .args .level in
+    (s .pre .0, past-rows k _ (s .pre .0) (first j .only), cells-clear k (s .pre .0) (s .args .mask .now) (s .pre .1) _ _ (r .to-rows .ensures .1))
 
 cells-of-requires : tie.Need-cells-of-requires
 cells-of-requires c κs = search needs
@@ -66,7 +69,7 @@ returns-2 c =
     let f = c .before .before in
     let b = f .before .before .before .before in
     let m = b .before .before .before .before in
-    let j = m .before .before in
+    let j = m .before .before .before .before in
     let s = entry (in-rows j) in
     let a = s .args in
     let A = marked (a .mask .now) in

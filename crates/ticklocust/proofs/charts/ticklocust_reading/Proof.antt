@@ -36,7 +36,7 @@ returns-2 : tie.Need-returns-2
 returns-2 c = form-told saidReading kindTemperatureDays _ _ _ (c .before .before .before .reading-of .ensures) (c .before .t2 .given .1) _ _ refl
 
 returns-3 : tie.Need-returns-3
-unfolding Ieee.ofBits
+unfolding Ieee.ofBits Ieee.div
 returns-3 c = form-told saidReading kindTemperatureDays _ _ _ (c .before .before .reading-of .ensures) (c .enum-told .given .1) _ _ refl
 
 returns-4 : tie.Need-returns-4
