@@ -65,9 +65,12 @@ pub extern "C" fn ticklocust_day(
     coldest: &mut f32,
     warmest: &mut f32,
 ) -> u32
-    ensures { λ r. ⌜ ((r, (now (count .exit), now (coldest .exit), now (warmest .exit))), (now (temperatures .exit), now (ages .exit)))
+    ensures { λ r. ⌜ (
+      (r, record { count = now (count .exit); coldest = now (coldest .exit); warmest = now (warmest .exit) }),
+      record { temperatures = now (temperatures .exit); ages = now (ages .exit) },
+    )
         ≡ toldLent (dayCall level limit (now (news .entry)) (now (cloud .entry)) (now (temperatures .entry)) (now (ages .entry)))
-        (now (count .entry), now (coldest .entry), now (warmest .entry)) ⌝ }
+        (record { count = now (count .entry); coldest = now (coldest .entry); warmest = now (warmest .entry) }) ⌝ }
 {
     match day::day(level, limit, news, cloud, temperatures, ages) {
         DayAnswer::Summed(summary) => {

@@ -28,7 +28,7 @@ returns : tie.Need-returns
 returns c =
     let a = c .before .before .before .before .before .before .before .before .before .before .before .before .before .before .args in
     lent-told saidDay _ _ _ _ (c .before .before .before .before .before .before .before .day .ensures) (c .before .summary .given .1) _
-    (a .count .now, a .coldest .now, a .warmest .now) refl
+    (record { count = a .count .now; coldest = a .coldest .now; warmest = a .warmest .now }) refl
 
 same-length-3 : tie.Need-same-length-3
 same-length-3 c = search needs
