@@ -1,4 +1,5 @@
--- Rows of bits: where the cells and the points of a level lie in words of 64 bits. No public contract of the library cites this file: growing does.
+-- Rows of bits: where the cells and the points of a level lie in words of 64 bits. Growing and filling work on these rows; no contract of
+-- `grow` or `fill` and no demand cites this file.
 -- Each octant has 258 rows of 320 bits, so that its rows t and columns r, up to 256 each, have a spot, and the row before the first and the
 -- one after the last are empty. Two more rows stand before all octants.
 use Prim.Native.Nat.{ℕ, _+_, _*_, _-_, _/_, _%_, _^_}

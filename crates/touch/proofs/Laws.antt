@@ -68,9 +68,9 @@ module _ (k : ℕ) (p q : Place) (hp : Occurs k p) (hq : Occurs k q)
         z = common-end (c .z) (d .z) w (b .w) (s .2) (b .small .2) (ap (λ (x : Point). coordinate x 2) e);
       }
 
-  -- two cells that have the same corners are one cell
-  pub same-corners : p ≡ q
-  same-corners =
+  -- so the two cells are one
+  one-cell : p ≡ q
+  one-cell =
       let r = room (p .1) - 1 in
       let e = units (room (p .1)) (room-small (p .1)) in
       let zero-small = e .small .0 in
@@ -84,6 +84,11 @@ module _ (k : ℕ) (p q : Place) (hp : Occurs k p) (hq : Occurs k q)
       let z = same-side (cubeOf k p .z) (cubeOf k q .z) (l .z) (g .z) in
       let e : cubeOf k p ≡ cubeOf k q = λ i. record { x = x i; y = y i; z = z i } in
       sym (place-cube k p hp) ∙ ap (placeOfCube k) e ∙ place-cube k q hq
+
+-- two cells of a level that have the same corners are one cell
+pub same-corners : (k : ℕ) (p q : Place) → Occurs k p → Occurs k q →
+    ((i : ℕ) → i < 3 → (j : ℕ) × (j < 3) × (getD (corners k p) i [] ≡ getD (corners k q) j [])) → p ≡ q
+same-corners = one-cell
 
 -- ---- how many cells touch a cell
 
