@@ -8,10 +8,11 @@ use lib.Ieee.{Float}
 use Rattle.refusal.specs.Answer.{given, refused, inOrder, done}
 use Rattle.refusal.proofs.Answers.{passed, gives, same-refusal, lent-refused, lent-given}
 use Rattle.refusal.proofs.Tests.{length-is}
+use Rattle.refusal.specs.Outcome.{saidOutcome}
+use Rattle.refusal.specs.declared.Outcome.{Outcome}
+use Rattle.refusal.specs.declared.Outcome.the-variants as outcome
 use Rattle.cell.specs.Cell.{cells}
-use Rattle.mask.specs.Mask.{maxMaskLevel, saidMask}
-use Rattle.mask.specs.declared.MaskAnswer.{MaskAnswer}
-use Rattle.mask.specs.declared.MaskAnswer.the-variants as mask-answer
+use Rattle.mask.specs.Mask.{maxMaskLevel}
 use Rattle.chart.specs.Chart.{maxDays}
 use Rattle.day.specs.Day.{Summary, Slices, dayTests, dayCall, summaryAfter, temperaturesAfter, agesAfter}
 
@@ -42,11 +43,11 @@ abbrev pub slices : List Float → List ℕ → Slices
 slices temps ages = record { temperatures = temps; ages = ages }
 
 -- a call that its tests refuse leaves both slices
-pub day-refused : (k d : ℕ) (new : List Float) (clouds : List ℕ) (temps : List Float) (ages : List ℕ) (r : MaskAnswer) (n : ℕ) → r ≡ mask-answer.Refused n →
-    saidMask r ≡ inOrder (dayTests k d new clouds temps ages) done → (refused n, slices temps ages) ≡ dayCall k d new clouds temps ages
+pub day-refused : (k d : ℕ) (new : List Float) (clouds : List ℕ) (temps : List Float) (ages : List ℕ) (r : Outcome) (n : ℕ) → r ≡ outcome.Refused n →
+    saidOutcome r ≡ inOrder (dayTests k d new clouds temps ages) done → (refused n, slices temps ages) ≡ dayCall k d new clouds temps ages
 day-refused k d new clouds temps ages r n e h =
     let s = summaryAfter (cells k) d new clouds temps ages in
-    lent-refused _ (slices temps ages) _ n (same-refusal (dayTests k d new clouds temps ages) [] done s n (sym (ap saidMask e) ∙ h))
+    lent-refused _ (slices temps ages) _ n (same-refusal (dayTests k d new clouds temps ages) [] done s n (sym (ap saidOutcome e) ∙ h))
 
 -- and any other writes them
 pub day-given : (k d : ℕ) (new : List Float) (clouds : List ℕ) (temps : List Float) (ages : List ℕ) (s : Summary) (temps′ : List Float) (ages′ : List ℕ) →

@@ -5,13 +5,14 @@ ghost use Prim.Native.Nat.{_≤_, _<_};
 ghost use lib.Ieee as Ieee;
 ghost use lib.ListN.{length};
 ghost use Rattle.refusal.specs.Answer.{done, inOrder};
+ghost use Rattle.refusal.specs.Outcome.{saidOutcome};
 ghost use Rattle.cell.specs.Cell.{cells};
-ghost use Rattle.mask.specs.Mask.{maxMaskLevel, saidMask};
+ghost use Rattle.mask.specs.Mask.{maxMaskLevel};
 ghost use Rattle.chart.specs.Chart.{inRange, maxDays, readingOf};
 ghost use Rattle.day.specs.Day.{dayOf, temperaturesAfter, agesAfter, summaryAfter, withCell, dayTests, dayCall, summaryIs, saidDay};
 use chart::FRESH_AGE;
 use chart::MAX_DAYS;
-use mask::MaskAnswer;
+use refusal::Outcome;
 
 // The age that a day gives a cell with nothing to read.
 const GAP_AGE: u8 = 255;
@@ -135,30 +136,30 @@ fn day_tests(
     clouds: &[u8],
     temperatures: &[f32],
     ages: &[u8],
-) -> MaskAnswer
-    ensures { λ r. ⌜ saidMask r
+) -> Outcome
+    ensures { λ r. ⌜ saidOutcome r
         ≡ inOrder (dayTests level limit (now (new .entry)) (now (clouds .entry)) (now (temperatures .entry)) (now (ages .entry))) done ⌝ }
 {
     if level > mask::MAX_MASK_LEVEL {
-        return MaskAnswer::Refused(refusal::LEVEL);
+        return Outcome::Refused(refusal::LEVEL);
     }
     let size = 8 << (2 * level);
     if new.len() != size {
-        return MaskAnswer::Refused(refusal::LENGTH);
+        return Outcome::Refused(refusal::LENGTH);
     }
     if clouds.len() != size / 8 {
-        return MaskAnswer::Refused(refusal::LENGTH);
+        return Outcome::Refused(refusal::LENGTH);
     }
     if temperatures.len() != size {
-        return MaskAnswer::Refused(refusal::LENGTH);
+        return Outcome::Refused(refusal::LENGTH);
     }
     if ages.len() != size {
-        return MaskAnswer::Refused(refusal::LENGTH);
+        return Outcome::Refused(refusal::LENGTH);
     }
     if (MAX_DAYS as u32) < limit {
-        return MaskAnswer::Refused(refusal::COUNT);
+        return Outcome::Refused(refusal::COUNT);
     }
-    MaskAnswer::Fits
+    Outcome::Done
 }
 
 // One day: rewrites the chart by new temperatures and a cloud mask, and answers a summary of the chart that it leaves.
@@ -174,7 +175,7 @@ pub fn day(
         ≡ dayCall level limit (now (new .entry)) (now (clouds .entry)) (now (temperatures .entry)) (now (ages .entry)) ⌝ }
 {
     match day_tests(level, limit, new, clouds, temperatures, ages) {
-        MaskAnswer::Refused(n) => DayAnswer::Refused(n),
-        MaskAnswer::Fits => DayAnswer::Summed(rewrite(limit, new, clouds, temperatures, ages)),
+        Outcome::Refused(n) => DayAnswer::Refused(n),
+        Outcome::Done => DayAnswer::Summed(rewrite(limit, new, clouds, temperatures, ages)),
     }
 }

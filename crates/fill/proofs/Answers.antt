@@ -8,13 +8,14 @@ use lib.ListN.{length}
 use Rattle.refusal.specs.Answer.{given, refused, inOrder, done}
 use Rattle.refusal.proofs.Answers.{passed, lent-refused, lent-given}
 use Rattle.refusal.proofs.Tests.{length-is}
+use Rattle.refusal.specs.Outcome.{saidOutcome}
+use Rattle.refusal.specs.declared.Outcome.{Outcome}
+use Rattle.refusal.specs.declared.Outcome.the-variants as outcome
 use Rattle.bitset.specs.Bits.{marked, bytesOf, outside}
 use Rattle.bitset.proofs.Laws.{length-bytesOf, marked-bytesOf, bytesOf-cong}
 use Rattle.cell.specs.Cell.{cells}
 use Rattle.mask.specs.Mask.{maxMaskLevel}
-use Rattle.fill.specs.Fill.{reachable, unreached, fillTests, fillCall, saidFill}
-use Rattle.fill.specs.declared.FillAnswer.{FillAnswer}
-use Rattle.fill.specs.declared.FillAnswer.the-variants as fill-answer
+use Rattle.fill.specs.Fill.{reachable, unreached, fillTests, fillCall}
 
 -- a border, an outside cell and a slice, as filling takes them
 pub record Ready (k : ℕ) (a : List ℕ) (o : ℕ) (out : List ℕ) : Type 0 where
@@ -37,9 +38,9 @@ ready k a o out e =
     }
 
 -- a call that its tests refuse leaves the slice
-pub fill-refused : (k : ℕ) (a : List ℕ) (o : ℕ) (out : List ℕ) (r : FillAnswer) (n : ℕ) → r ≡ fill-answer.Refused n →
-    saidFill r ≡ inOrder (fillTests k a o out) done → (refused n, out) ≡ fillCall k a o out
-fill-refused k a o out r n e h = lent-refused (inOrder (fillTests k a o out) done) out _ n (sym (ap saidFill e) ∙ h)
+pub fill-refused : (k : ℕ) (a : List ℕ) (o : ℕ) (out : List ℕ) (r : Outcome) (n : ℕ) → r ≡ outcome.Refused n →
+    saidOutcome r ≡ inOrder (fillTests k a o out) done → (refused n, out) ≡ fillCall k a o out
+fill-refused k a o out r n e h = lent-refused (inOrder (fillTests k a o out) done) out _ n (sym (ap saidOutcome e) ∙ h)
 
 -- and any other writes what can't be reached
 pub fill-done : (k : ℕ) (a : List ℕ) (o : ℕ) (out reached l : List ℕ) → given done ≡ inOrder (fillTests k a o out) done →

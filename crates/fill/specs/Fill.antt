@@ -10,8 +10,6 @@ use Rattle.step.specs.Neighbours.{isDirect}
 use Rattle.mask.specs.Mask.{maxMaskLevel}
 use Rattle.mask.specs.Walk.{Walk}
 use Rattle.mask.specs.Reach.{reaches}
-use Rattle.fill.specs.declared.FillAnswer.{FillAnswer}
-use Rattle.fill.specs.declared.FillAnswer.the-variants as fill-answer
 
 -- a direct step to a cell that is not in a set
 unfoldable pub openStep : ℕ → (ℕ → Bool) → ℕ → ℕ → Bool
@@ -42,6 +40,3 @@ abbrev pub fillCall : ℕ → List ℕ → ℕ → List ℕ → Answer (Unit {0}
 fillCall k a o out = lending (inOrder (fillTests k a o out) done) out (bytesOf (4 ^ k) (unreached k (marked a) o))
 
 -- what the code's answers say
-abbrev pub saidFill : FillAnswer → Answer (Unit {0})
-saidFill fill-answer.Filled = given done
-saidFill (fill-answer.Refused n) = refused n

@@ -7,11 +7,12 @@ use lib.ListN.{length}
 use Rattle.refusal.specs.Answer.{given, refused, inOrder, lending, done}
 use Rattle.refusal.proofs.Answers.{passed, lent-refused, lent-given}
 use Rattle.refusal.proofs.Tests.{length-is}
+use Rattle.refusal.specs.Outcome.{saidOutcome}
+use Rattle.refusal.specs.declared.Outcome.{Outcome}
+use Rattle.refusal.specs.declared.Outcome.the-variants as outcome
 use Rattle.bitset.specs.Bits.{marked, bytesOf}
 use Rattle.mask.specs.Mask.{maxMaskLevel}
-use Rattle.grow.specs.Grow.{maxRings, grownCells, shrunkCells, ringTests, growCall, shrinkCall, saidRings}
-use Rattle.grow.specs.declared.RingsAnswer.{RingsAnswer}
-use Rattle.grow.specs.declared.RingsAnswer.the-variants as rings-answer
+use Rattle.grow.specs.Grow.{maxRings, grownCells, shrunkCells, ringTests, growCall, shrinkCall}
 
 -- three masks of a level and a number of rings, as both calls take them
 pub record Ready (k m : ℕ) (a out work : List ℕ) : Type 0 where
@@ -34,10 +35,10 @@ ready k m a out work e =
     }
 
 -- a call that its tests refuse leaves both slices
-pub rings-refused : (k m : ℕ) (a out work : List ℕ) (after : List ℕ × List ℕ) (r : RingsAnswer) (n : ℕ) →
-    r ≡ rings-answer.Refused n → saidRings r ≡ inOrder (ringTests k m a out work) done →
+pub rings-refused : (k m : ℕ) (a out work : List ℕ) (after : List ℕ × List ℕ) (r : Outcome) (n : ℕ) →
+    r ≡ outcome.Refused n → saidOutcome r ≡ inOrder (ringTests k m a out work) done →
     (refused n, (out, work)) ≡ lending {S = List ℕ × List ℕ} (inOrder (ringTests k m a out work) done) (out, work) after
-rings-refused k m a out work after r n e h = lent-refused (inOrder (ringTests k m a out work) done) (out, work) after n (sym (ap saidRings e) ∙ h)
+rings-refused k m a out work after r n e h = lent-refused (inOrder (ringTests k m a out work) done) (out, work) after n (sym (ap saidOutcome e) ∙ h)
 
 -- and any other writes them
 pub rings-done : (k m : ℕ) (a out work o w o′ w′ : List ℕ) → given done ≡ inOrder (ringTests k m a out work) done → o ≡ o′ → w ≡ w′ →

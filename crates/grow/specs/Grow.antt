@@ -11,8 +11,6 @@ use Rattle.cell.specs.Cell.{cells}
 use Rattle.corner.specs.Corner.{touches}
 use Rattle.mask.specs.Mask.{maxMaskLevel}
 use Rattle.mask.specs.Reach.{grown, shrunk}
-use Rattle.grow.specs.declared.RingsAnswer.{RingsAnswer}
-use Rattle.grow.specs.declared.RingsAnswer.the-variants as rings-answer
 
 -- cells at most m touching steps from a cell of a set
 abbrev pub grownCells : ℕ → ℕ → (ℕ → Bool) → ℕ → Bool
@@ -48,6 +46,3 @@ shrinkCall k m a out work =
     (bytesOf (4 ^ k) (shrunkCells k m (marked a)), replicate (4 ^ k) 0)
 
 -- what the code's answers say
-abbrev pub saidRings : RingsAnswer → Answer (Unit {0})
-saidRings rings-answer.Done = given done
-saidRings (rings-answer.Refused n) = refused n

@@ -3,20 +3,16 @@ ghost use mathlib.Core.Path.{_≡_};
 ghost use Prim.Native.Nat.{_^_, _≤_};
 ghost use lib.ListN.{length, replicate};
 ghost use Rattle.refusal.specs.Answer.{done, inOrder};
+ghost use Rattle.refusal.specs.Outcome.{saidOutcome};
 ghost use Rattle.bitset.specs.Bits.{marked, bytesOf};
 ghost use Rattle.mask.specs.Mask.{maxMaskLevel};
-ghost use Rattle.grow.specs.Grow.{grownCells, shrunkCells, ringTests, growCall, shrinkCall, saidRings};
-use mask::MaskAnswer;
+ghost use Rattle.grow.specs.Grow.{grownCells, shrunkCells, ringTests, growCall, shrinkCall};
+use refusal::Outcome;
 
 mod points;
 
 // The most rings of one call.
 pub const MAX_RINGS: u32 = 64;
-
-pub enum RingsAnswer {
-    Done,
-    Refused(u8),
-}
 
 // Grows a mask of a level into another.
 fn grow_into(level: u32, rings: u32, mask: &[u8], out: &mut [u8], work: &mut [u8])
@@ -43,49 +39,49 @@ fn shrink_into(level: u32, rings: u32, mask: &[u8], out: &mut [u8], work: &mut [
 }
 
 // Marks in `out` the cells at most `rings` touching steps from a cell that `mask` marks. `work` is lent for working and holds zeros afterwards.
-pub fn grow(level: u32, rings: u32, mask: &[u8], out: &mut [u8], work: &mut [u8]) -> RingsAnswer
-    ensures { λ r. ⌜ (saidRings r, (now (out .exit), now (work .exit))) ≡ growCall level rings (now (mask .entry)) (now (out .entry)) (now (work .entry)) ⌝ }
+pub fn grow(level: u32, rings: u32, mask: &[u8], out: &mut [u8], work: &mut [u8]) -> Outcome
+    ensures { λ r. ⌜ (saidOutcome r, (now (out .exit), now (work .exit))) ≡ growCall level rings (now (mask .entry)) (now (out .entry)) (now (work .entry)) ⌝ }
 {
     match ring_tests(level, rings, mask, out, work) {
-        RingsAnswer::Refused(n) => RingsAnswer::Refused(n),
-        RingsAnswer::Done => {
+        Outcome::Refused(n) => Outcome::Refused(n),
+        Outcome::Done => {
             grow_into(level, rings, mask, out, work);
-            RingsAnswer::Done
+            Outcome::Done
         }
     }
 }
 
 // Marks in `out` the cells from which every cell within `rings` touching steps is marked in `mask`. `work` is lent for working and holds zeros
 // afterwards.
-pub fn shrink(level: u32, rings: u32, mask: &[u8], out: &mut [u8], work: &mut [u8]) -> RingsAnswer
-    ensures { λ r. ⌜ (saidRings r, (now (out .exit), now (work .exit))) ≡ shrinkCall level rings (now (mask .entry)) (now (out .entry)) (now (work .entry)) ⌝ }
+pub fn shrink(level: u32, rings: u32, mask: &[u8], out: &mut [u8], work: &mut [u8]) -> Outcome
+    ensures { λ r. ⌜ (saidOutcome r, (now (out .exit), now (work .exit))) ≡ shrinkCall level rings (now (mask .entry)) (now (out .entry)) (now (work .entry)) ⌝ }
 {
     match ring_tests(level, rings, mask, out, work) {
-        RingsAnswer::Refused(n) => RingsAnswer::Refused(n),
-        RingsAnswer::Done => {
+        Outcome::Refused(n) => Outcome::Refused(n),
+        Outcome::Done => {
             shrink_into(level, rings, mask, out, work);
-            RingsAnswer::Done
+            Outcome::Done
         }
     }
 }
 
 // The tests of both calls.
-fn ring_tests(level: u32, rings: u32, mask: &[u8], out: &[u8], work: &[u8]) -> RingsAnswer
-    ensures { λ r. ⌜ saidRings r ≡ inOrder (ringTests level rings (now (mask .entry)) (now (out .entry)) (now (work .entry))) done ⌝ }
+fn ring_tests(level: u32, rings: u32, mask: &[u8], out: &[u8], work: &[u8]) -> Outcome
+    ensures { λ r. ⌜ saidOutcome r ≡ inOrder (ringTests level rings (now (mask .entry)) (now (out .entry)) (now (work .entry))) done ⌝ }
 {
     match mask::is_mask(level, mask) {
-        MaskAnswer::Refused(n) => RingsAnswer::Refused(n),
-        MaskAnswer::Fits => {
+        Outcome::Refused(n) => Outcome::Refused(n),
+        Outcome::Done => {
             if out.len() != mask.len() {
-                return RingsAnswer::Refused(refusal::LENGTH);
+                return Outcome::Refused(refusal::LENGTH);
             }
             if work.len() != mask.len() {
-                return RingsAnswer::Refused(refusal::LENGTH);
+                return Outcome::Refused(refusal::LENGTH);
             }
             if MAX_RINGS < rings {
-                return RingsAnswer::Refused(refusal::COUNT);
+                return Outcome::Refused(refusal::COUNT);
             }
-            RingsAnswer::Done
+            Outcome::Done
         }
     }
 }

@@ -7,10 +7,11 @@ use lib.ListN.{length}
 use Rattle.refusal.specs.Answer.{given, refused, inOrder, done}
 use Rattle.refusal.proofs.Answers.{Passed, passed, lent-refused, lent-given}
 use Rattle.refusal.proofs.Tests.{length-is}
+use Rattle.refusal.specs.Outcome.{saidOutcome}
+use Rattle.refusal.specs.declared.Outcome.{Outcome}
+use Rattle.refusal.specs.declared.Outcome.the-variants as outcome
 use Rattle.bitset.specs.Bits.{marked, bytesOf}
-use Rattle.mask.specs.declared.JoinAnswer.{JoinAnswer}
-use Rattle.mask.specs.declared.JoinAnswer.the-variants as join-answer
-use Rattle.mask.specs.Mask.{maxMaskLevel, maskTests, maskCall, union, joinTests, joinCall, saidJoin}
+use Rattle.mask.specs.Mask.{maxMaskLevel, maskTests, maskCall, union, joinTests, joinCall}
 use Rattle.mask.proofs.Laws.{mask-small}
 
 -- a slice is a mask of level k
@@ -45,9 +46,9 @@ joinable k a b out e =
     }
 
 -- a join that its tests refuse, or do not
-pub join-refused : (k : ℕ) (a b out : List ℕ) (r : JoinAnswer) (n : ℕ) → r ≡ join-answer.Refused n →
-    saidJoin r ≡ inOrder (joinTests k a b out) done → (refused n, out) ≡ joinCall k a b out
-join-refused k a b out r n e h = lent-refused (inOrder (joinTests k a b out) done) out _ n (sym (ap saidJoin e) ∙ h)
+pub join-refused : (k : ℕ) (a b out : List ℕ) (r : Outcome) (n : ℕ) → r ≡ outcome.Refused n →
+    saidOutcome r ≡ inOrder (joinTests k a b out) done → (refused n, out) ≡ joinCall k a b out
+join-refused k a b out r n e h = lent-refused (inOrder (joinTests k a b out) done) out _ n (sym (ap saidOutcome e) ∙ h)
 
 pub join-given : (k : ℕ) (a b out l : List ℕ) → given done ≡ inOrder (joinTests k a b out) done →
     l ≡ bytesOf (length out) (union (marked a) (marked b)) → (given done, l) ≡ joinCall k a b out

@@ -6,10 +6,6 @@ use Rattle.refusal.specs.Answer.{Answer, given, refused, Test, inOrder, lending
 use Rattle.refusal.specs.Tests.{badLevel, badLength}
 use Rattle.bitset.specs.Bits.{marked, bytesOf, size}
 use Rattle.cell.specs.Cell.{cells}
-use Rattle.mask.specs.declared.MaskAnswer.{MaskAnswer}
-use Rattle.mask.specs.declared.MaskAnswer.the-variants as mask-answer
-use Rattle.mask.specs.declared.JoinAnswer.{JoinAnswer}
-use Rattle.mask.specs.declared.JoinAnswer.the-variants as join-answer
 use Rattle.mask.specs.declared.CountAnswer.{CountAnswer}
 use Rattle.mask.specs.declared.CountAnswer.the-variants as count-answer
 use Rattle.mask.specs.declared.WithinAnswer.{WithinAnswer}
@@ -69,17 +65,9 @@ withinCall k a b =
 
 -- ---- what the code's answers say
 
-abbrev pub saidMask : MaskAnswer → Answer (Unit {0})
-saidMask mask-answer.Fits = given done
-saidMask (mask-answer.Refused n) = refused n
-
 abbrev pub saidCount : CountAnswer → Answer ℕ
 saidCount (count-answer.Count n) = given n
 saidCount (count-answer.Refused n) = refused n
-
-abbrev pub saidJoin : JoinAnswer → Answer (Unit {0})
-saidJoin join-answer.Joined = given done
-saidJoin (join-answer.Refused n) = refused n
 
 abbrev pub saidWithin : WithinAnswer → Answer Inclusion
 saidWithin within-answer.Within = given within

@@ -5,26 +5,18 @@ ghost use mathlib.Core.List.{List};
 ghost use Prim.Native.Nat.{ℕ, _*_, _^_, _≤_, _<_};
 ghost use lib.ListN.{length};
 ghost use Rattle.refusal.specs.Answer.{done, inOrder};
+ghost use Rattle.refusal.specs.Outcome.{saidOutcome};
 ghost use Rattle.bitset.specs.Bits.{marked, bytesOf, size};
 ghost use Rattle.mask.specs.Mask.{maxMaskLevel, union, difference, maskCall, joinCall, countCall, withinCall, joinTests};
-ghost use Rattle.mask.specs.Mask.{saidMask, saidJoin, saidCount, saidWithin};
+ghost use Rattle.mask.specs.Mask.{saidCount, saidWithin};
 use cell::CellNumber;
+use refusal::Outcome;
 
 // The highest level of masks and charts.
 pub const MAX_MASK_LEVEL: u32 = 8;
 
-pub enum MaskAnswer {
-    Fits,
-    Refused(u8),
-}
-
 pub enum CountAnswer {
     Count(u32),
-    Refused(u8),
-}
-
-pub enum JoinAnswer {
-    Joined,
     Refused(u8),
 }
 
@@ -35,16 +27,16 @@ pub enum WithinAnswer {
 }
 
 // Whether a slice is a mask of a level: the tests that every call on masks begins with.
-pub fn is_mask(level: u32, mask: &[u8]) -> MaskAnswer
-    ensures { λ r. ⌜ saidMask r ≡ maskCall level (now (mask .entry)) ⌝ }
+pub fn is_mask(level: u32, mask: &[u8]) -> Outcome
+    ensures { λ r. ⌜ saidOutcome r ≡ maskCall level (now (mask .entry)) ⌝ }
 {
     if MAX_MASK_LEVEL < level {
-        return MaskAnswer::Refused(refusal::LEVEL);
+        return Outcome::Refused(refusal::LEVEL);
     }
     if mask.len() != 1 << (2 * level) {
-        return MaskAnswer::Refused(refusal::LENGTH);
+        return Outcome::Refused(refusal::LENGTH);
     }
-    MaskAnswer::Fits
+    Outcome::Done
 }
 
 // The ones of each byte summed.
@@ -66,8 +58,8 @@ pub fn count(level: u32, mask: &[u8]) -> CountAnswer
     ensures { λ r. ⌜ saidCount r ≡ countCall level (now (mask .entry)) ⌝ }
 {
     match is_mask(level, mask) {
-        MaskAnswer::Refused(n) => CountAnswer::Refused(n),
-        MaskAnswer::Fits => CountAnswer::Count(sum_ones(mask)),
+        Outcome::Refused(n) => CountAnswer::Refused(n),
+        Outcome::Done => CountAnswer::Count(sum_ones(mask)),
     }
 }
 
@@ -99,8 +91,8 @@ pub fn within(level: u32, a: &[u8], b: &[u8]) -> WithinAnswer
     ensures { λ r. ⌜ saidWithin r ≡ withinCall level (now (a .entry)) (now (b .entry)) ⌝ }
 {
     match is_mask(level, a) {
-        MaskAnswer::Refused(n) => WithinAnswer::Refused(n),
-        MaskAnswer::Fits => {
+        Outcome::Refused(n) => WithinAnswer::Refused(n),
+        Outcome::Done => {
             if a.len() != b.len() {
                 return WithinAnswer::Refused(refusal::LENGTH);
             }
@@ -115,19 +107,19 @@ pub fn within(level: u32, a: &[u8], b: &[u8]) -> WithinAnswer
 }
 
 // The tests of join.
-fn join_tests(level: u32, a: &[u8], b: &[u8], out: &[u8]) -> JoinAnswer
-    ensures { λ r. ⌜ saidJoin r ≡ inOrder (joinTests level (now (a .entry)) (now (b .entry)) (now (out .entry))) done ⌝ }
+fn join_tests(level: u32, a: &[u8], b: &[u8], out: &[u8]) -> Outcome
+    ensures { λ r. ⌜ saidOutcome r ≡ inOrder (joinTests level (now (a .entry)) (now (b .entry)) (now (out .entry))) done ⌝ }
 {
     match is_mask(level, a) {
-        MaskAnswer::Refused(n) => JoinAnswer::Refused(n),
-        MaskAnswer::Fits => {
+        Outcome::Refused(n) => Outcome::Refused(n),
+        Outcome::Done => {
             if b.len() != a.len() {
-                return JoinAnswer::Refused(refusal::LENGTH);
+                return Outcome::Refused(refusal::LENGTH);
             }
             if out.len() != a.len() {
-                return JoinAnswer::Refused(refusal::LENGTH);
+                return Outcome::Refused(refusal::LENGTH);
             }
-            JoinAnswer::Joined
+            Outcome::Done
         }
     }
 }
@@ -145,14 +137,14 @@ fn join_bytes(a: &[u8], b: &[u8], out: &mut [u8])
 }
 
 // Marks in a third mask exactly the cells that either of two masks marks.
-pub fn join(level: u32, a: &[u8], b: &[u8], out: &mut [u8]) -> JoinAnswer
-    ensures { λ r. ⌜ (saidJoin r, now (out .exit)) ≡ joinCall level (now (a .entry)) (now (b .entry)) (now (out .entry)) ⌝ }
+pub fn join(level: u32, a: &[u8], b: &[u8], out: &mut [u8]) -> Outcome
+    ensures { λ r. ⌜ (saidOutcome r, now (out .exit)) ≡ joinCall level (now (a .entry)) (now (b .entry)) (now (out .entry)) ⌝ }
 {
     match join_tests(level, a, b, out) {
-        JoinAnswer::Refused(n) => JoinAnswer::Refused(n),
-        JoinAnswer::Joined => {
+        Outcome::Refused(n) => Outcome::Refused(n),
+        Outcome::Done => {
             join_bytes(a, b, out);
-            JoinAnswer::Joined
+            Outcome::Done
         }
     }
 }

@@ -9,7 +9,7 @@ ghost use Rattle.mask.specs.Mask.{maxMaskLevel};
 ghost use Rattle.rows.specs.Rows.{lit};
 ghost use Rattle.raster.specs.Raster.{isMask, cellAt, cellLit};
 ghost use Rattle.raster.specs.inside.Pieces.{pieceSize, pieceCount, piece, Added, Marked};
-use mask::MaskAnswer;
+use refusal::Outcome;
 
 mod blocks;
 mod cells;
@@ -67,12 +67,12 @@ pub fn to_rows(level: u32, mask: &[u8], up: &mut [u64; 10330], down: &mut [u64; 
         ≡ cond (isMask level (now (mask .entry))) (cellAt Triangle.down level (marked (now (mask .entry))) i) (lit (now (down .entry)) i)) ⌝ }
 {
     match mask::is_mask(level, mask) {
-        MaskAnswer::Fits => {
+        Outcome::Done => {
             words::clear(up);
             words::clear(down);
             put_pieces(level, mask, up, down);
         }
-        MaskAnswer::Refused(_) => {}
+        Outcome::Refused(_) => {}
     }
 }
 
@@ -109,7 +109,7 @@ pub fn from_rows(level: u32, up: &[u64; 10330], down: &[u64; 10330], mask: &mut 
         ≡ cond (isMask level (now (mask .entry))) (bytesOf (4 ^ level) (cellLit level (now (up .entry)) (now (down .entry)))) (now (mask .entry)) ⌝ }
 {
     match mask::is_mask(level, mask) {
-        MaskAnswer::Fits => take_pieces(level, up, down, mask),
-        MaskAnswer::Refused(_) => {}
+        Outcome::Done => take_pieces(level, up, down, mask),
+        Outcome::Refused(_) => {}
     }
 }

@@ -25,3 +25,9 @@ pub const SHORT: u8 = 10;
 pub const FORM: u8 = 11;
 // Pad bits are not zero, or bytes are left over.
 pub const REST: u8 = 12;
+
+// The answer of a call that has no value to give beyond its work.
+pub enum Outcome {
+    Done,
+    Refused(u8),
+}

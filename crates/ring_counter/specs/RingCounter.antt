@@ -8,8 +8,8 @@ use Rattle.bitset.specs.Bits.{marked, size}
 use Rattle.cell.specs.Cell.{cells}
 use Rattle.grow.specs.Grow.{grownCells, badRings}
 use Rattle.text.specs.Text.{decimal, refusalLine}
-use Rattle.ring_counter.specs.declared.Outcome.{Outcome}
-use Rattle.ring_counter.specs.declared.Outcome.the-variants as outcome
+use Rattle.ring_counter.specs.declared.CountsAnswer.{CountsAnswer}
+use Rattle.ring_counter.specs.declared.CountsAnswer.the-variants as counts-answer
 
 -- it reads one byte of rings and one mask of level 5, 1,024 bytes, and nothing after
 abbrev pub inputBytes : ℕ
@@ -36,7 +36,7 @@ output input = line (ringCounts input)
 abbrev pub frontBytes : ℕ
 frontBytes = 1026
 
--- what the code's outcome says
-abbrev pub saidOutcome : Outcome → Answer (ℕ × ℕ)
-saidOutcome (outcome.Counts before after) = given (before, after)
-saidOutcome (outcome.Refused n) = refused n
+-- what the code's answer says
+abbrev pub saidCounts : CountsAnswer → Answer (ℕ × ℕ)
+saidCounts (counts-answer.Counts before after) = given (before, after)
+saidCounts (counts-answer.Refused n) = refused n

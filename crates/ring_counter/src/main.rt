@@ -9,9 +9,9 @@ ghost use Rattle.bitset.specs.Bits.{marked, size};
 ghost use Rattle.cell.specs.Cell.{cells};
 ghost use mathlib.Core.List.{List, [], _∷_};
 ghost use Rattle.grow.specs.Grow.{badRings};
-ghost use Rattle.ring_counter.specs.RingCounter.{counts, ringCounts, line, output, saidOutcome, frontBytes};
-use grow::RingsAnswer;
+ghost use Rattle.ring_counter.specs.RingCounter.{counts, ringCounts, line, output, saidCounts, frontBytes};
 use mask::CountAnswer;
+use refusal::Outcome;
 
 const LEVEL: u32 = 5;
 
@@ -22,7 +22,7 @@ const INPUT: usize = 1025;
 const FRONT: usize = 1026;
 
 // The cells marked before growing and after it, or the number by which the input is refused.
-enum Outcome {
+enum CountsAnswer {
     Counts(u32, u32),
     Refused(u8),
 }
@@ -39,23 +39,23 @@ fn marked_cells(mask: &[u8]) -> u32
 }
 
 // What growing a mask of level 5 by a number of rings comes to.
-fn grown_counts(rings: u8, mask: &[u8; 1024]) -> Outcome
-    ensures { λ r. ⌜ saidOutcome r ≡ inOrder (badRings rings ∷ []) (counts rings (now (mask .entry))) ⌝ }
+fn grown_counts(rings: u8, mask: &[u8; 1024]) -> CountsAnswer
+    ensures { λ r. ⌜ saidCounts r ≡ inOrder (badRings rings ∷ []) (counts rings (now (mask .entry))) ⌝ }
 {
     let mut grown = [0u8; 1024];
     let mut work = [0u8; 1024];
     match grow::grow(LEVEL, rings as u32, mask, &mut grown, &mut work) {
-        RingsAnswer::Done => Outcome::Counts(marked_cells(mask), marked_cells(&grown)),
-        RingsAnswer::Refused(n) => Outcome::Refused(n),
+        Outcome::Done => CountsAnswer::Counts(marked_cells(mask), marked_cells(&grown)),
+        Outcome::Refused(n) => CountsAnswer::Refused(n),
     }
 }
 
 // What the input comes to.
-fn outcome_of(input: &[u8]) -> Outcome
-    ensures { λ r. ⌜ saidOutcome r ≡ ringCounts (now (input .entry)) ⌝ }
+fn outcome_of(input: &[u8]) -> CountsAnswer
+    ensures { λ r. ⌜ saidCounts r ≡ ringCounts (now (input .entry)) ⌝ }
 {
     if input.len() != INPUT {
-        return Outcome::Refused(refusal::LENGTH);
+        return CountsAnswer::Refused(refusal::LENGTH);
     }
     let mut mask = [0u8; 1024];
     bytes::copy(&input[1..], &mut mask);
@@ -63,18 +63,18 @@ fn outcome_of(input: &[u8]) -> Outcome
 }
 
 // Puts the line of an outcome into a slice, and answers its length.
-fn put_line(outcome: Outcome, out: &mut [u8; 64]) -> usize
+fn put_line(outcome: CountsAnswer, out: &mut [u8; 64]) -> usize
     ensures fits { λ r. ⌜ Counts r (now (out .exit)) ⌝ }
-    ensures text { λ r. ⌜ take r (now (out .exit)) ≡ line (saidOutcome outcome) ⌝ }
+    ensures text { λ r. ⌜ take r (now (out .exit)) ≡ line (saidCounts outcome) ⌝ }
 {
     match outcome {
-        Outcome::Counts(before, after) => {
+        CountsAnswer::Counts(before, after) => {
             let a = text::append_decimal(out, 0, before as u64);
             let b = text::append(out, a, b" ");
             let c = text::append_decimal(out, b, after as u64);
             text::append(out, c, b"\n")
         }
-        Outcome::Refused(n) => text::append_refusal(out, 0, n),
+        CountsAnswer::Refused(n) => text::append_refusal(out, 0, n),
     }
 }
 

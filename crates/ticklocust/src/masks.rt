@@ -4,11 +4,9 @@ ghost use Rattle.mask.specs.Mask.{joinCall, countCall, withinCall};
 ghost use Rattle.grow.specs.Grow.{growCall, shrinkCall};
 ghost use Rattle.fill.specs.Fill.{fillCall};
 ghost use Rattle.ticklocust.specs.Interface.{told, returned, inC, lackingCell};
-use fill::FillAnswer;
-use grow::RingsAnswer;
 use mask::CountAnswer;
-use mask::JoinAnswer;
 use mask::WithinAnswer;
+use refusal::Outcome;
 
 // What `within` answers when every cell of the first mask is in the second.
 const WITHIN: u32 = 4_294_967_295;
@@ -25,8 +23,8 @@ pub extern "C" fn ticklocust_grow(
         ≡ returned (growCall level rings (now (mask .entry)) (now (out .entry)) (now (work .entry))) ⌝ }
 {
     match grow::grow(level, rings, mask, out, work) {
-        RingsAnswer::Done => 0,
-        RingsAnswer::Refused(n) => n as u32,
+        Outcome::Done => 0,
+        Outcome::Refused(n) => n as u32,
     }
 }
 
@@ -42,8 +40,8 @@ pub extern "C" fn ticklocust_shrink(
         ≡ returned (shrinkCall level rings (now (mask .entry)) (now (out .entry)) (now (work .entry))) ⌝ }
 {
     match grow::shrink(level, rings, mask, out, work) {
-        RingsAnswer::Done => 0,
-        RingsAnswer::Refused(n) => n as u32,
+        Outcome::Done => 0,
+        Outcome::Refused(n) => n as u32,
     }
 }
 
@@ -52,8 +50,8 @@ pub extern "C" fn ticklocust_join(level: u32, a: &[u8], b: &[u8], out: &mut [u8]
     ensures { λ r. ⌜ (r, now (out .exit)) ≡ returned (joinCall level (now (a .entry)) (now (b .entry)) (now (out .entry))) ⌝ }
 {
     match mask::join(level, a, b, out) {
-        JoinAnswer::Joined => 0,
-        JoinAnswer::Refused(n) => n as u32,
+        Outcome::Done => 0,
+        Outcome::Refused(n) => n as u32,
     }
 }
 
@@ -93,7 +91,7 @@ pub extern "C" fn ticklocust_fill(level: u32, border: &[u8], outside: u32, out: 
     ensures { λ r. ⌜ (r, now (out .exit)) ≡ returned (fillCall level (now (border .entry)) outside (now (out .entry))) ⌝ }
 {
     match fill::fill(level, border, outside, out) {
-        FillAnswer::Filled => 0,
-        FillAnswer::Refused(n) => n as u32,
+        Outcome::Done => 0,
+        Outcome::Refused(n) => n as u32,
     }
 }

@@ -4,7 +4,7 @@ use mathlib.Core.Path.{_≡_, sym, ap, _∙_}
 use native.Mathlib.Omega.{arith}
 use borrow.Author.Needs.{needs}
 use Rattle.refusal.specs.Answer.{given, refused, inOrder, done}
-use Rattle.mask.specs.Mask.{saidMask}
+use Rattle.refusal.specs.Outcome.{saidOutcome}
 use Rattle.mask.proofs.Laws.{mask-small}
 use Rattle.day.specs.Day.{dayTests, dayCall, temperaturesAfter, agesAfter, summaryAfter}
 use Rattle.day.proofs.Answers.{Ready, ready, slices, day-refused, day-given}
@@ -26,7 +26,7 @@ entry c = c .before .before .before .before .before .before .before .before .bef
 -- no test refused
 told : (c : tie.After-enum-told) → let a = entry c .args in
     given done ≡ inOrder (dayTests (a .level) (a .limit) (a .new .now) (a .clouds .now) (a .temperatures .now) (a .ages .now)) done
-told c = sym (ap saidMask (c .enum-told .given .1)) ∙ c .before .before .day-tests .ensures
+told c = sym (ap saidOutcome (c .enum-told .given .1)) ∙ c .before .before .day-tests .ensures
 
 ready-at : (c : tie.After-enum-told) → let a = entry c .args in
     Ready (a .level) (a .limit) (a .new .now) (a .clouds .now) (a .temperatures .now) (a .ages .now)

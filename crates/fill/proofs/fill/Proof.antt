@@ -3,7 +3,8 @@ use mathlib.Core.Path.{_≡_, sym, ap, _∙_}
 use native.Mathlib.Omega.{arith}
 use borrow.Author.Needs.{needs}
 use Rattle.refusal.specs.Answer.{given, inOrder, done}
-use Rattle.fill.specs.Fill.{fillTests, saidFill}
+use Rattle.refusal.specs.Outcome.{saidOutcome}
+use Rattle.fill.specs.Fill.{fillTests}
 use Rattle.fill.proofs.Answers.{ready, fill-refused, fill-done}
 use Rattle.fill.proofs.fill.Statement.{statement}
 use Rattle.fill.proofs.fill.Tie as tie
@@ -25,7 +26,7 @@ entry c = c .before .before .before .before .before .before
 
 -- no test refused
 told : (c : tie.After-enum-told) → let a = entry c .args in given done ≡ inOrder (fillTests (a .level) (a .border .now) (a .outside) (a .out .now)) done
-told c = sym (ap saidFill (c .enum-told .given .1)) ∙ c .before .before .fill-tests .ensures
+told c = sym (ap saidOutcome (c .enum-told .given .1)) ∙ c .before .before .fill-tests .ensures
 
 reach-all-requires : tie.Need-reach-all-requires
 reach-all-requires c κs =

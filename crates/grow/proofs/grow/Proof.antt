@@ -3,7 +3,8 @@ use mathlib.Core.Path.{_≡_, sym, ap, _∙_}
 use native.Mathlib.Omega.{arith}
 use borrow.Author.Needs.{needs}
 use Rattle.refusal.specs.Answer.{given, inOrder, done}
-use Rattle.grow.specs.Grow.{ringTests, saidRings}
+use Rattle.refusal.specs.Outcome.{saidOutcome}
+use Rattle.grow.specs.Grow.{ringTests}
 use Rattle.grow.proofs.Answers.{ready, rings-refused, rings-done}
 use Rattle.grow.proofs.grow.Statement.{statement}
 use Rattle.grow.proofs.grow.Tie as tie
@@ -27,7 +28,7 @@ entry c = c .before .before .before .before .before .before .before .before
 told : (c : tie.After-enum-told) →
     let a = entry c .args in
     given done ≡ inOrder (ringTests (a .level) (a .rings) (a .mask .now) (a .out .now) (a .work .now)) done
-told c = sym (ap saidRings (c .enum-told .given .1)) ∙ c .before .before .ring-tests .ensures
+told c = sym (ap saidOutcome (c .enum-told .given .1)) ∙ c .before .before .ring-tests .ensures
 
 grow-into-requires : tie.Need-grow-into-requires
 grow-into-requires c κs =

@@ -9,7 +9,8 @@ use lib.ListN.{length}
 use Rattle.refusal.specs.Answer.{done}
 use Rattle.refusal.specs.Tests.{badLength}
 use Rattle.refusal.proofs.Answers.{same-refusal}
-use Rattle.mask.specs.Mask.{maskTests, saidMask}
+use Rattle.refusal.specs.Outcome.{saidOutcome}
+use Rattle.mask.specs.Mask.{maskTests}
 use Rattle.mask.proofs.Answers.{IsMask, is-mask}
 use Rattle.grow.specs.Grow.{maxRings, badRings}
 use Rattle.grow.proofs.ring_tests.Statement.{statement}
@@ -29,7 +30,7 @@ entry c = c .before .before .before .before .before .before
 
 -- the slice to read is a mask of the level
 first : (c : tie.After-enum-told) → IsMask (entry c .args .level) (entry c .args .mask .now)
-first c = is-mask (entry c .args .level) (entry c .args .mask .now) (sym (ap saidMask (c .enum-told .given .1)) ∙ c .before .before .is-mask .ensures)
+first c = is-mask (entry c .args .level) (entry c .args .mask .now) (sym (ap saidOutcome (c .enum-told .given .1)) ∙ c .before .before .is-mask .ensures)
 
 returns : tie.Need-returns
 returns c =
@@ -62,7 +63,7 @@ returns-4 : tie.Need-returns-4
 returns-4 c =
     let a = c .before .before .before .before .before .before .before .args in
     let us = badLength (4 ^ a .level) (a .out .now) ∷ badLength (4 ^ a .level) (a .work .now) ∷ badRings (a .rings) ∷ [] in
-    let said = sym (ap saidMask (c .before .n .given .1)) ∙ c .before .before .before .is-mask .ensures in
+    let said = sym (ap saidOutcome (c .before .n .given .1)) ∙ c .before .before .before .is-mask .ensures in
     same-refusal (maskTests (a .level) (a .mask .now)) us done done _ said
 
 returns-5 : tie.Need-returns-5

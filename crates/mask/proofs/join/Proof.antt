@@ -2,7 +2,8 @@
 use mathlib.Core.Path.{_≡_, sym, ap, _∙_}
 use borrow.Author.Needs.{needs}
 use Rattle.refusal.specs.Answer.{given, inOrder, done}
-use Rattle.mask.specs.Mask.{joinTests, saidJoin}
+use Rattle.refusal.specs.Outcome.{saidOutcome}
+use Rattle.mask.specs.Mask.{joinTests}
 use Rattle.mask.proofs.Answers.{joinable, join-refused, join-given}
 use Rattle.mask.proofs.join.Statement.{statement}
 use Rattle.mask.proofs.join.Tie as tie
@@ -24,7 +25,7 @@ entry c = c .before .before .before .before .before .before .before
 
 -- no test refused
 told : (c : tie.After-enum-told) → let a = entry c .args in given done ≡ inOrder (joinTests (a .level) (a .a .now) (a .b .now) (a .out .now)) done
-told c = sym (ap saidJoin (c .enum-told .given .1)) ∙ c .before .before .join-tests .ensures
+told c = sym (ap saidOutcome (c .enum-told .given .1)) ∙ c .before .before .join-tests .ensures
 
 join-bytes-requires : tie.Need-join-bytes-requires
 join-bytes-requires c κs =

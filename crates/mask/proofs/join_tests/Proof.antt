@@ -9,7 +9,8 @@ use Rattle.refusal.specs.Answer.{done}
 use lib.ListN.{length}
 use Rattle.refusal.specs.Tests.{badLength}
 use Rattle.refusal.proofs.Answers.{same-refusal}
-use Rattle.mask.specs.Mask.{maskTests, saidMask}
+use Rattle.refusal.specs.Outcome.{saidOutcome}
+use Rattle.mask.specs.Mask.{maskTests}
 use Rattle.mask.proofs.Answers.{IsMask, is-mask}
 use Rattle.mask.proofs.join_tests.Statement.{statement}
 use Rattle.mask.proofs.join_tests.Tie as tie
@@ -28,7 +29,7 @@ entry c = c .before .before .before .before .before .before
 
 -- the first slice is a mask of the level
 first : (c : tie.After-enum-told) → IsMask (entry c .args .level) (entry c .args .a .now)
-first c = is-mask (entry c .args .level) (entry c .args .a .now) (sym (ap saidMask (c .enum-told .given .1)) ∙ c .before .before .is-mask .ensures)
+first c = is-mask (entry c .args .level) (entry c .args .a .now) (sym (ap saidOutcome (c .enum-told .given .1)) ∙ c .before .before .is-mask .ensures)
 
 returns : tie.Need-returns
 returns c =
@@ -52,7 +53,7 @@ returns-3 : tie.Need-returns-3
 returns-3 c =
     let a = c .before .before .before .before .before .before .before .args in
     let us = badLength (4 ^ a .level) (a .b .now) ∷ badLength (4 ^ a .level) (a .out .now) ∷ [] in
-    same-refusal (maskTests (a .level) (a .a .now)) us done done _ (sym (ap saidMask (c .before .n .given .1)) ∙ c .before .before .before .is-mask .ensures)
+    same-refusal (maskTests (a .level) (a .a .now)) us done done _ (sym (ap saidOutcome (c .before .n .given .1)) ∙ c .before .before .before .is-mask .ensures)
 
 returns-4 : tie.Need-returns-4
 returns-4 c =

@@ -10,8 +10,9 @@ use lib.ListN.{length}
 use Rattle.refusal.specs.Answer.{done}
 use Rattle.refusal.specs.Tests.{badLength}
 use Rattle.refusal.proofs.Answers.{same-refusal}
+use Rattle.refusal.specs.Outcome.{saidOutcome}
 use Rattle.bitset.specs.Bits.{marked}
-use Rattle.mask.specs.Mask.{maskTests, difference, saidMask}
+use Rattle.mask.specs.Mask.{maskTests, difference}
 use Rattle.mask.proofs.Laws.{lowest-none, lowest-at}
 use Rattle.mask.proofs.Answers.{IsMask, is-mask}
 use Rattle.mask.proofs.within.Statement.{statement}
@@ -31,7 +32,7 @@ entry c = c .before .before .before .before .before
 
 -- the first slice is a mask of the level
 first : (c : tie.After-enum-told) → IsMask (entry c .args .level) (entry c .args .a .now)
-first c = is-mask (entry c .args .level) (entry c .args .a .now) (sym (ap saidMask (c .enum-told .given .1)) ∙ c .before .before .is-mask .ensures)
+first c = is-mask (entry c .args .level) (entry c .args .a .now) (sym (ap saidOutcome (c .enum-told .given .1)) ∙ c .before .before .is-mask .ensures)
 
 returns : tie.Need-returns
 returns c =
@@ -57,7 +58,7 @@ returns-2 : tie.Need-returns-2
 returns-2 c =
     let a = c .before .before .before .before .before .before .args in
     let us = badLength (4 ^ a .level) (a .b .now) ∷ [] in
-    same-refusal (maskTests (a .level) (a .a .now)) us done _ _ (sym (ap saidMask (c .before .n .given .1)) ∙ c .before .before .before .is-mask .ensures)
+    same-refusal (maskTests (a .level) (a .a .now)) us done _ _ (sym (ap saidOutcome (c .before .n .given .1)) ∙ c .before .before .before .is-mask .ensures)
 
 returns-3 : tie.Need-returns-3
 returns-3 c =

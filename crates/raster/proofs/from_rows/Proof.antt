@@ -2,7 +2,8 @@
 use mathlib.Core.Path.{_≡_, sym, ap, _∙_}
 use borrow.Author.Needs.{needs}
 use Rattle.refusal.specs.Answer.{given, done}
-use Rattle.mask.specs.Mask.{saidMask, maskCall}
+use Rattle.refusal.specs.Outcome.{saidOutcome}
+use Rattle.mask.specs.Mask.{maskCall}
 use Rattle.mask.proofs.Answers.{is-mask}
 use Rattle.raster.proofs.Answers.{passed-is, refused-is}
 use Rattle.raster.proofs.from_rows.Statement.{statement}
@@ -16,7 +17,7 @@ enum-told c = search needs
 
 -- the slice is a mask of the level
 fits : (c : tie.After-enum-told) → let a = c .before .before .before .before .before .args in given done ≡ maskCall (a .level) (a .mask .now)
-fits c = sym (ap saidMask (c .enum-told .given .1)) ∙ c .before .before .is-mask .ensures
+fits c = sym (ap saidOutcome (c .enum-told .given .1)) ∙ c .before .before .is-mask .ensures
 
 take-pieces-requires : tie.Need-take-pieces-requires
 take-pieces-requires c κs =
@@ -41,7 +42,7 @@ same-length-2 c = search needs
 returns-2 : tie.Need-returns-2
 returns-2 c =
     let a = c .before .before .before .before .before .args in
-    rw (refused-is (a .level) (a .mask .now) _ (sym (ap saidMask (c .enum-told2 .given .1)) ∙ c .before .before .is-mask .ensures))
+    rw (refused-is (a .level) (a .mask .now) _ (sym (ap saidOutcome (c .enum-told2 .given .1)) ∙ c .before .before .is-mask .ensures))
 
 pub from-rows-spec : {M : Type 1} → statement M
 from-rows-spec =

@@ -3,9 +3,10 @@ use mathlib.Core.Path.{_≡_, sym, ap, _∙_}
 use borrow.Author.Needs.{needs}
 use lib.ListN.{length}
 use Rattle.refusal.specs.Answer.{given, done}
+use Rattle.refusal.specs.Outcome.{saidOutcome}
 use Rattle.bitset.specs.Bits.{marked}
 use Rattle.cell.specs.declared.Kind.the-variants.{Up, Down}
-use Rattle.mask.specs.Mask.{saidMask, maskCall}
+use Rattle.mask.specs.Mask.{maskCall}
 use Rattle.mask.proofs.Answers.{is-mask}
 use Rattle.raster.proofs.Answers.{passed-is, refused-is, all-added}
 use Rattle.raster.proofs.to_rows.Statement.{statement}
@@ -25,7 +26,7 @@ clear-requires-2 c κs = search needs
 
 -- the slice is a mask of the level
 fits : (c : tie.After-enum-told) → let a = c .before .before .before .before .args in given done ≡ maskCall (a .level) (a .mask .now)
-fits c = sym (ap saidMask (c .enum-told .given .1)) ∙ c .before .before .is-mask .ensures
+fits c = sym (ap saidOutcome (c .enum-told .given .1)) ∙ c .before .before .is-mask .ensures
 
 put-pieces-requires : tie.Need-put-pieces-requires
 put-pieces-requires c κs =
@@ -52,7 +53,7 @@ returns c =
 returns-2 : tie.Need-returns-2
 returns-2 c =
     let a = c .before .before .before .before .args in
-    let m = refused-is (a .level) (a .mask .now) _ (sym (ap saidMask (c .enum-told2 .given .1)) ∙ c .before .before .is-mask .ensures) in
+    let m = refused-is (a .level) (a .mask .now) _ (sym (ap saidOutcome (c .enum-told2 .given .1)) ∙ c .before .before .is-mask .ensures) in
     ((λ i. rw m), (λ i. rw m))
 
 pub to-rows-spec : {M : Type 1} → statement M

@@ -2,8 +2,8 @@
 use mathlib.Core.Path.{_≡_, refl, subst}
 use lib.ListN.{length, replicate}
 use Rattle.refusal.specs.Answer.{Answer}
-use Rattle.grow.specs.declared.RingsAnswer.{RingsAnswer}
-use Rattle.grow.specs.Grow.{saidRings}
+use Rattle.refusal.specs.declared.Outcome.{Outcome}
+use Rattle.refusal.specs.Outcome.{saidOutcome}
 use Rattle.ring_counter.proofs.Laws.{both-counted, refused-too}
 use Prim.Native.Nat.{ℕ}
 use mathlib.Core.List.{List}
@@ -42,8 +42,8 @@ long : (c : tie.After-grow) → length (entry c .args .mask .now) ≡ 1024
 long c = search needs
 
 -- what `grow` said, of the answer that was matched
-told : {r s : RingsAnswer} {l : List ℕ × List ℕ} {v : Answer (Unit {0}) × (List ℕ × List ℕ)} → r ≡ s → (saidRings r, l) ≡ v → (saidRings s, l) ≡ v
-told {r} {s} {l} {v} e h = subst (λ (t : RingsAnswer). (saidRings t, l) ≡ v) e h
+told : {r s : Outcome} {l : List ℕ × List ℕ} {v : Answer (Unit {0}) × (List ℕ × List ℕ)} → r ≡ s → (saidOutcome r, l) ≡ v → (saidOutcome s, l) ≡ v
+told {r} {s} {l} {v} e h = subst (λ (t : Outcome). (saidOutcome t, l) ≡ v) e h
 
 returns : tie.Need-returns
 returns c =

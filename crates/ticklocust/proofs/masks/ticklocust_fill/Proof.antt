@@ -1,10 +1,10 @@
 -- `ticklocust_fill` meets its contract. Assumes nothing.
 use mathlib.Core.Path.{refl}
 use borrow.Author.Needs.{needs}
-use Rattle.fill.specs.Fill.{saidFill}
 use Rattle.ticklocust.proofs.Told.{work-done, work-refused}
 use Rattle.ticklocust.proofs.masks.ticklocust_fill.Statement.{statement}
 use Rattle.ticklocust.proofs.masks.ticklocust_fill.Tie as tie
+use Rattle.refusal.specs.Outcome.{saidOutcome}
 
 fill-requires : tie.Need-fill-requires
 fill-requires c κs = search needs
@@ -22,13 +22,13 @@ same-length : tie.Need-same-length
 same-length c = search needs
 
 returns : tie.Need-returns
-returns c = work-done saidFill _ _ _ _ (c .before .before .before .before .fill .ensures) (c .enum-told .given .1) _ refl
+returns c = work-done saidOutcome _ _ _ _ (c .before .before .before .before .fill .ensures) (c .enum-told .given .1) _ refl
 
 same-length-2 : tie.Need-same-length-2
 same-length-2 c = search needs
 
 returns-2 : tie.Need-returns-2
-returns-2 c = work-refused saidFill _ _ _ _ (c .before .before .before .before .before .fill .ensures) (c .before .n .given .1) _ refl
+returns-2 c = work-refused saidOutcome _ _ _ _ (c .before .before .before .before .before .fill .ensures) (c .before .n .given .1) _ refl
 
 pub ticklocust-fill-spec : {M : Type 1} → statement M
 ticklocust-fill-spec =
