@@ -14,7 +14,7 @@ use Rattle.bitset.proofs.Laws.{length-bytesOf, marked-bytesOf, bytesOf-cong, by
 use Rattle.cell.specs.Cell.{cells}
 use Rattle.corner.specs.Corner.{touches}
 use Rattle.grow.specs.Grow.{grownCells}
-use Rattle.mask.proofs.Reach.{grown-cong, grown-zero, grown-grown}
+use Rattle.walk.proofs.Reach.{grown-cong, grown-zero, grown-grown}
 use Rattle.grow.proofs.Answers.{ready, grown-bytes}
 use Rattle.demands.specs.Demand3.{Mask, Accepted, written, Growing, growing, maskAfter, ringsAdded, afterOne, after, ringsOf}
 

@@ -9,10 +9,10 @@ use Rattle.refusal.proofs.Tests.{both, parts}
 use Rattle.cell.specs.Cell.{cells}
 use Rattle.corner.specs.Corner.{touches}
 use Rattle.corner.proofs.Laws.{touches-symmetric}
-use Rattle.mask.proofs.Walks.{Stepwise, walk-reach}
-use Rattle.mask.specs.Reach.{reaches}
+use Rattle.walk.proofs.Walks.{Stepwise, walk-reach}
+use Rattle.walk.specs.Reach.{reaches}
 use Rattle.grow.specs.Grow.{grownCells, shrunkCells}
-use Rattle.mask.proofs.Reach.{reach-zero, reach-stay, reach-step, reach-out, reach-sym, grown-in, grown-out, shrunk-in, shrunk-out}
+use Rattle.walk.proofs.Reach.{reach-zero, reach-stay, reach-step, reach-out, reach-sym, grown-in, grown-out, shrunk-in, shrunk-out}
 use Rattle.demands.specs.Demand3.{touchingStep, AtMostSteps}
 
 module _ (k : ℕ) where

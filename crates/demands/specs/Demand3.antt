@@ -10,7 +10,7 @@ use Rattle.refusal.specs.Answer.{Answer, given, refused, done}
 use Rattle.bitset.specs.Bits.{Bytes, marked}
 use Rattle.cell.specs.Cell.{cells}
 use Rattle.corner.specs.Corner.{touches}
-use Rattle.mask.specs.Walk.{Walk}
+use Rattle.walk.specs.Walk.{Walk}
 use Rattle.mask.specs.Mask.{maxMaskLevel, joinCall, Inclusion, within, lacks, withinCall}
 use Rattle.grow.specs.Grow.{maxRings, growCall, shrinkCall}
 

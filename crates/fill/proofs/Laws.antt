@@ -15,10 +15,10 @@ use Rattle.cell.proofs.Laws.{place-occurs, number-below, number-place}
 use Rattle.step.specs.Step.{codeTo}
 use Rattle.step.specs.Neighbours.{isDirect, directCode}
 use Rattle.step.proofs.Laws.{code-step, step-occurs, direct-mutual}
-use Rattle.mask.specs.Reach.{reaches}
-use Rattle.mask.proofs.Walks.{Stepwise, walk-reach}
-use Rattle.mask.proofs.Reach.{reach-zero, reach-self, reach-stay, reach-step, reach-out, reach-trans}
-use Rattle.mask.proofs.Closure.{closure}
+use Rattle.walk.specs.Reach.{reaches}
+use Rattle.walk.proofs.Walks.{Stepwise, walk-reach}
+use Rattle.walk.proofs.Reach.{reach-zero, reach-self, reach-stay, reach-step, reach-out, reach-trans}
+use Rattle.walk.proofs.Closure.{closure}
 use Rattle.fill.specs.Fill.{openStep, Reachable, reachable, unreached, fillCall}
 use Rattle.fill.proofs.Answers.{Ready, ready, filled-bytes}
 

@@ -12,8 +12,8 @@ use Rattle.bitset.proofs.Laws.{bytesOf-cong}
 use Rattle.cell.specs.declared.Kind.{Kind}
 use Rattle.cell.specs.Cell.{Triangle, up, down, row, col, triangleOf, place, cells}
 use Rattle.step.specs.Neighbours.{isDirect}
-use Rattle.mask.specs.Reach.{reaches}
-use Rattle.mask.proofs.Reach.{reach-zero, reach-out}
+use Rattle.walk.specs.Reach.{reaches}
+use Rattle.walk.proofs.Reach.{reach-zero, reach-out}
 use Rattle.raster.specs.Raster.{cellAt, triangleLit, cellLit}
 use Rattle.raster.proofs.Held.{at-cell, Found, found}
 use Rattle.flood.specs.Flood.{litOf, Near, Closed, Flooded}

@@ -8,8 +8,8 @@ use Rattle.bitset.specs.Bits.{marked, bytesOf, outside}
 use Rattle.cell.specs.Cell.{cells, badCell}
 use Rattle.step.specs.Neighbours.{isDirect}
 use Rattle.mask.specs.Mask.{maxMaskLevel}
-use Rattle.mask.specs.Walk.{Walk}
-use Rattle.mask.specs.Reach.{reaches}
+use Rattle.walk.specs.Walk.{Walk}
+use Rattle.walk.specs.Reach.{reaches}
 
 -- a direct step to a cell that is not in a set
 unfoldable pub openStep : ℕ → (ℕ → Bool) → ℕ → ℕ → Bool

@@ -17,8 +17,8 @@ use Rattle.bitset.specs.Bits.{bit}
 use Rattle.bitset.proofs.Laws.{bit-or, bits-same}
 use Rattle.cell.specs.declared.Kind.{Kind}
 use Rattle.cell.specs.declared.Kind.the-variants.{Up, Down}
-use Rattle.mask.specs.Reach.{anyBelow}
-use Rattle.mask.proofs.Reach.{any-in, any-out}
+use Rattle.walk.specs.Reach.{anyBelow}
+use Rattle.walk.proofs.Reach.{any-in, any-out}
 use Rattle.rows.specs.Rows.{lit}
 use Rattle.rows.proofs.Words.{bit-and, lit-set, lit-at}
 use Rattle.stencil.specs.inside.Words.{WordOf}

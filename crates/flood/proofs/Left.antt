@@ -7,7 +7,7 @@ use native.Mathlib.Omega.{arith}
 use lib.Dec.{eqb}
 use Rattle.bitset.specs.Bits.{size}
 use Rattle.bitset.proofs.Laws.{size-le}
-use Rattle.mask.proofs.Closure.{size-less}
+use Rattle.walk.proofs.Closure.{size-less}
 use Rattle.cell.specs.declared.Kind.{Kind}
 use Rattle.cell.specs.declared.Kind.the-variants.{Up, Down}
 use Rattle.flood.specs.Flood.{litOf}

@@ -12,7 +12,7 @@ use Rattle.bitset.specs.Bits.{Bytes, marked, bytesOf}
 use Rattle.bitset.proofs.Laws.{settled, bytesOf-cong}
 use Rattle.cell.specs.Cell.{up, down, span, cells}
 use Rattle.corner.specs.Corner.{touches}
-use Rattle.mask.proofs.Reach.{grown-zero, grown-grown}
+use Rattle.walk.proofs.Reach.{grown-zero, grown-grown}
 use Rattle.rows.specs.Rows.{lit, octantAt, rowAt, colAt, inside}
 use Rattle.raster.specs.Raster.{isMask, cellAt, cellLit}
 use Rattle.seam.specs.Seam.{joined}

@@ -10,7 +10,7 @@ use Rattle.bitset.proofs.Laws.{settled, marked-bytesOf}
 use Rattle.corner.specs.Corner.{touches}
 use Rattle.cell.specs.Cell.{cells}
 use Rattle.grow.specs.Grow.{grownCells, shrunkCells}
-use Rattle.mask.proofs.Reach.{grown-cong, shrunk-grown}
+use Rattle.walk.proofs.Reach.{grown-cong, shrunk-grown}
 
 pub shrunk-bytes : (k m : ℕ) (a turned spread out : List ℕ) →
     length a ≡ 4 ^ k → length spread ≡ 4 ^ k → length out ≡ 4 ^ k → Bytes out →

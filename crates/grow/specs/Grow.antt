@@ -10,7 +10,7 @@ use Rattle.bitset.specs.Bits.{marked, bytesOf}
 use Rattle.cell.specs.Cell.{cells}
 use Rattle.corner.specs.Corner.{touches}
 use Rattle.mask.specs.Mask.{maxMaskLevel}
-use Rattle.mask.specs.Reach.{grown, shrunk}
+use Rattle.walk.specs.Reach.{grown, shrunk}
 
 -- cells at most m touching steps from a cell of a set
 abbrev pub grownCells : ℕ → ℕ → (ℕ → Bool) → ℕ → Bool

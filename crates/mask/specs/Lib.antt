@@ -1,3 +1,1 @@
 pub mod Mask
-pub mod Walk
-pub mod Reach

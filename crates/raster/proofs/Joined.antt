@@ -13,7 +13,7 @@ use Rattle.refusal.proofs.Tests.{same-test, both, parts}
 use lib.Seq.{getD-set-same, getD-set-other}
 use Rattle.bitset.specs.Bits.{bit, marked}
 use Rattle.bitset.proofs.Laws.{bit-zero, bit-past, bit-or, bit-pow, shifted}
-use Rattle.mask.specs.Reach.{anyBelow}
+use Rattle.walk.specs.Reach.{anyBelow}
 use Rattle.rows.specs.Rows.{lit}
 use Rattle.rows.proofs.Words.{bit-mod, bit-shr, shl-high, shl-low, lit-at, lit-set}
 use Rattle.raster.specs.inside.Squares.{inSquare}

@@ -17,8 +17,8 @@ use Rattle.cell.specs.declared.Kind.the-variants.{Up, Down}
 use Rattle.cell.specs.Cell.{Triangle, up, down, row, col, child, children, triangleOf, Place, place, cells}
 use Rattle.cell.proofs.Laws.{digit-cases, child-number, triangle-bounds}
 use Rattle.cell.proofs.Answers.{Given}
-use Rattle.mask.specs.Reach.{allBelow}
-use Rattle.mask.proofs.Reach.{any-in, any-out, all-at}
+use Rattle.walk.specs.Reach.{allBelow}
+use Rattle.walk.proofs.Reach.{any-in, any-out, all-at}
 use Rattle.rows.specs.Rows.{lit, spot, octantAt, rowAt, colAt}
 use Rattle.raster.specs.Raster.{cellAt, triangleLit, cellLit}
 use Rattle.raster.specs.inside.Pieces.{piece, Added}

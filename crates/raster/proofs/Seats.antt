@@ -12,8 +12,8 @@ use Rattle.bitset.specs.Bits.{bit}
 use Rattle.cell.specs.declared.Kind.{Kind}
 use Rattle.cell.specs.declared.Kind.the-variants.{Up, Down}
 use Rattle.cell.specs.Cell.{Triangle, up, down, row, col, child, children, triangleOf}
-use Rattle.mask.specs.Reach.{allBelow}
-use Rattle.mask.proofs.Reach.{all-at}
+use Rattle.walk.specs.Reach.{allBelow}
+use Rattle.walk.proofs.Reach.{all-at}
 use Rattle.raster.specs.inside.Squares.{quarterOf, seat, kindOf, squares, seatBit, Spread, Gathered}
 use Rattle.raster.proofs.Moves.{Word, input, kept, raised, lowered, joined, value, value-bit, sources, inputBit}
 use Rattle.raster.proofs.Moves.{sameList, one-source, two-sources, atMostOne, at-most-one}

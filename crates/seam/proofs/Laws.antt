@@ -6,8 +6,8 @@ use native.Mathlib.Omega.{arith}
 use Rattle.refusal.proofs.Tests.{both, parts}
 use Rattle.corner.specs.Corner.{Point, corner, pointIn, samePoint}
 use Rattle.corner.proofs.Common.{three, same-coordinates, samePoint-refl}
-use Rattle.mask.specs.Reach.{anyBelow}
-use Rattle.mask.proofs.Reach.{any-in, any-out}
+use Rattle.walk.specs.Reach.{anyBelow}
+use Rattle.walk.proofs.Reach.{any-in, any-out}
 use Rattle.rows.specs.Rows.{octantAt, rowAt, colAt, inside}
 use Rattle.rows.proofs.Spots.{inside-is, spot-fits, row-below, col-below}
 use Rattle.seam.specs.Seam.{pointAt, sameSpot, joined}

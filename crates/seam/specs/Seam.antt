@@ -2,7 +2,7 @@
 use Prim.Native.Nat.{ℕ}
 use mathlib.Core.Bool.{Bool, _&&_, cond}
 use Rattle.corner.specs.Corner.{Point, corner, samePoint}
-use Rattle.mask.specs.Reach.{anyBelow}
+use Rattle.walk.specs.Reach.{anyBelow}
 use Rattle.rows.specs.Rows.{octantAt, rowAt, colAt, inside}
 
 -- the point at a spot

@@ -15,7 +15,7 @@ use Rattle.cell.specs.Cell.{Triangle, up, down, span, Place, place, number, Occ
 use Rattle.cell.proofs.Laws.{place-occurs, place-number, number-below}
 use Rattle.corner.specs.Corner.{Point, corner, corners, samePoint, among, touches}
 use Rattle.corner.proofs.Common.{among-index, index-among, samePoint-refl, common-meeting, meeting-common}
-use Rattle.mask.specs.Reach.{grown}
+use Rattle.walk.specs.Reach.{grown}
 use Rattle.rows.specs.Rows.{lit, spot, octantAt, rowAt, colAt, inside}
 use Rattle.rows.proofs.Spots.{inside-is, inside-spot, spot-octant, spot-row, spot-col, small}
 use Rattle.raster.specs.Raster.{triangleLit, cellLit}

@@ -10,8 +10,8 @@ use Rattle.refusal.proofs.Tests.{both, parts, left, right, cases}
 use Rattle.cell.specs.Cell.{place, cells}
 use Rattle.corner.specs.Corner.{corners, common, touches}
 use Rattle.corner.proofs.Common.{shared-common}
-use Rattle.mask.specs.Reach.{anyBelow, grown}
-use Rattle.mask.proofs.Reach.{Is, any-in, any-out, grown-zero, grown-step}
+use Rattle.walk.specs.Reach.{anyBelow, grown}
+use Rattle.walk.proofs.Reach.{Is, any-in, any-out, grown-zero, grown-step}
 
 -- one touching step from a set, or none: some cell of it has a point in common
 pub one-in : (k : ℕ) (A : ℕ → Bool) (c d : ℕ) → c < cells k → d < cells k → Is (A d) →

@@ -8,7 +8,7 @@ use Rattle.step.specs.Step.{across, east, west, steps, step, firstTrue, codeTo}
 use Rattle.step.specs.Neighbours.{direct, directCode, isDirect}
 use Rattle.bitset.specs.Bits.{bit, marked, bitsOf, bytesOf, outside}
 use Rattle.corner.specs.Corner.{equatorial, polar, pointIn, corner, triangleCorners, sameNumber, samePoint, among, common, touches}
-use Rattle.mask.specs.Reach.{anyBelow, allBelow, reaches, grown, shrunk}
+use Rattle.walk.specs.Reach.{anyBelow, allBelow, reaches, grown, shrunk}
 use Rattle.fill.specs.Fill.{openStep, reachable}
 use Rattle.worked_masks.specs.WorkedCells.{All, workedCells}
 

@@ -7,7 +7,7 @@ use Rattle.bitset.specs.Bits.{bit}
 use Rattle.cell.specs.declared.Kind.{Kind}
 use Rattle.cell.specs.declared.Kind.the-variants.{Up, Down}
 use Rattle.cell.specs.Cell.{Triangle, up, down, row, col, child, triangleOf}
-use Rattle.mask.specs.Reach.{anyBelow}
+use Rattle.walk.specs.Reach.{anyBelow}
 
 -- whether bit i of the rows is set in one of the first n rows of a square, whose first row is byte `slot` of the rows: a row is 40 bytes
 unfoldable pub inSquare : ℕ → ℕ → ℕ → ℕ → Bool

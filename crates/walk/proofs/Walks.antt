@@ -6,7 +6,7 @@ use mathlib.Core.List.{List, [], _∷_, _++_}
 use mathlib.Core.Logic.{_⊎_, inl, inr, _↔_}
 use native.Mathlib.Omega.{arith}
 use lib.ListN.{length, length-append}
-use Rattle.mask.specs.Walk.{Linked, last, Walk}
+use Rattle.walk.specs.Walk.{Linked, last, Walk}
 
 -- the same step by step: in no step c itself; in one step more what was reached, and what a step leads to from a cell that was reached
 unfoldable pub Stepwise : (ℕ → ℕ → Bool) → ℕ → ℕ → ℕ → Type 0

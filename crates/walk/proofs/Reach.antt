@@ -9,7 +9,7 @@ use native.Mathlib.Omega.{arith}
 use borrow.Author.Tests.{eq-eqb, eqb-true}
 use lib.Dec.{eqb}
 use Rattle.refusal.proofs.Tests.{clash, same-test, both, parts, left, right, cases}
-use Rattle.mask.specs.Reach.{anyBelow, allBelow, reaches, grown, shrunk}
+use Rattle.walk.specs.Reach.{anyBelow, allBelow, reaches, grown, shrunk}
 
 -- ---- tests as facts
 

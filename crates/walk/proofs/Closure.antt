@@ -10,8 +10,8 @@ use borrow.Author.Tests.{not-true}
 use Rattle.refusal.proofs.Tests.{clash, both, parts}
 use Rattle.bitset.specs.Bits.{size}
 use Rattle.bitset.proofs.Laws.{size-le}
-use Rattle.mask.specs.Reach.{anyBelow, reaches}
-use Rattle.mask.proofs.Reach.{any-in, any-out, reach-stay, reach-step, reach-out, reach-self, reach-more}
+use Rattle.walk.specs.Reach.{anyBelow, reaches}
+use Rattle.walk.proofs.Reach.{any-in, any-out, reach-stay, reach-step, reach-out, reach-self, reach-more}
 
 -- a set within another has no more members, and fewer where a member of the other is missing
 module _ (P Q : ℕ → Bool) where
