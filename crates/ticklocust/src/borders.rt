@@ -1,7 +1,7 @@
 // Stored borders.
 ghost use mathlib.Core.Path.{_≡_};
 ghost use Rattle.border.specs.Border.{readBorder, writeBorder};
-ghost use Rattle.ticklocust.specs.Interface.{toldLent};
+ghost use Rattle.c_values.specs.Values.{toldLent};
 use border_reader::BorderAnswer;
 use border_writer::LengthAnswer;
 

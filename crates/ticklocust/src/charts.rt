@@ -2,7 +2,7 @@
 ghost use mathlib.Core.Path.{_≡_};
 ghost use Rattle.chart.specs.Chart.{readingCall};
 ghost use Rattle.day.specs.Day.{dayCall};
-ghost use Rattle.ticklocust.specs.Interface.{told, toldLent, inC, kindTemperatureDays};
+ghost use Rattle.c_values.specs.Values.{told, toldLent, inC, kindTemperatureDays};
 use chart::ReadingAnswer;
 use day::DayAnswer;
 

@@ -8,7 +8,7 @@ mod steps;
 ghost use mathlib.Core.Path.{_≡_};
 ghost use Rattle.position.specs.Position.{cellCall};
 ghost use Rattle.centre.specs.Centre.{centreCall};
-ghost use Rattle.ticklocust.specs.Interface.{told};
+ghost use Rattle.c_values.specs.Values.{told};
 use centre::CentreAnswer;
 use position::CellAnswer;
 use position::Latitude;

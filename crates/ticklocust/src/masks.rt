@@ -3,7 +3,7 @@ ghost use mathlib.Core.Path.{_≡_};
 ghost use Rattle.mask.specs.Mask.{joinCall, countCall, withinCall};
 ghost use Rattle.grow.specs.Grow.{growCall, shrinkCall};
 ghost use Rattle.fill.specs.Fill.{fillCall};
-ghost use Rattle.ticklocust.specs.Interface.{told, returned, inC, lackingCell};
+ghost use Rattle.c_values.specs.Values.{told, returned, inC, lackingCell};
 use mask::CountAnswer;
 use mask::WithinAnswer;
 use refusal::Outcome;

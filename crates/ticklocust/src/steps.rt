@@ -4,7 +4,7 @@ ghost use mathlib.Core.Logic.{_⊎_};
 ghost use Prim.Native.Nat.{_<_};
 ghost use Rattle.step.specs.Step.{stepCall, codeCall};
 ghost use Rattle.touch.specs.Touch.{listCall};
-ghost use Rattle.ticklocust.specs.Interface.{told, toldLent};
+ghost use Rattle.c_values.specs.Values.{told, toldLent};
 use step::CodeAnswer;
 use step::StepAnswer;
 use touch::ListAnswer;

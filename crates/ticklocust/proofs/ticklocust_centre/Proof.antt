@@ -5,7 +5,7 @@ use mir.Facts.{toZ-ofZ}
 use mir.Syntax.{w32}
 use borrow.Author.Needs.{needs}
 use Rattle.centre.specs.Centre.{saidCentre}
-use Rattle.ticklocust.proofs.Told.{value-refused, value-told}
+use Rattle.c_values.proofs.Told.{value-refused, value-told}
 use Rattle.ticklocust.proofs.ticklocust_centre.Statement.{statement}
 use Rattle.ticklocust.proofs.ticklocust_centre.Tie as tie
 

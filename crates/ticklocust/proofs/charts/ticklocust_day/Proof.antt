@@ -2,7 +2,7 @@
 use mathlib.Core.Path.{refl}
 use borrow.Author.Needs.{needs}
 use Rattle.day.specs.Day.{saidDay}
-use Rattle.ticklocust.proofs.Told.{lent-refused, lent-told}
+use Rattle.c_values.proofs.Told.{lent-refused, lent-told}
 use Rattle.ticklocust.proofs.charts.ticklocust_day.Statement.{statement}
 use Rattle.ticklocust.proofs.charts.ticklocust_day.Tie as tie
 

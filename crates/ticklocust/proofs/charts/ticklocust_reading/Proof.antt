@@ -3,8 +3,8 @@ use mathlib.Core.Path.{refl}
 use lib.Ieee as Ieee
 use borrow.Author.Needs.{needs}
 use Rattle.chart.specs.Chart.{saidReading}
-use Rattle.ticklocust.specs.Interface.{kindTemperatureDays}
-use Rattle.ticklocust.proofs.Told.{form-refused, form-told}
+use Rattle.c_values.specs.Values.{kindTemperatureDays}
+use Rattle.c_values.proofs.Told.{form-refused, form-told}
 use Rattle.ticklocust.proofs.charts.ticklocust_reading.Statement.{statement}
 use Rattle.ticklocust.proofs.charts.ticklocust_reading.Tie as tie
 

@@ -2,7 +2,7 @@
 use mathlib.Core.Path.{refl}
 use borrow.Author.Needs.{needs}
 use Rattle.mask.specs.Mask.{saidCount}
-use Rattle.ticklocust.proofs.Told.{value-refused, value-told}
+use Rattle.c_values.proofs.Told.{value-refused, value-told}
 use Rattle.ticklocust.proofs.masks.ticklocust_count.Statement.{statement}
 use Rattle.ticklocust.proofs.masks.ticklocust_count.Tie as tie
 

@@ -2,8 +2,8 @@
 use mathlib.Core.Path.{refl}
 use borrow.Author.Needs.{needs}
 use Rattle.mask.specs.Mask.{saidWithin}
-use Rattle.ticklocust.specs.Interface.{lackingCell}
-use Rattle.ticklocust.proofs.Told.{form-refused, form-told}
+use Rattle.c_values.specs.Values.{lackingCell}
+use Rattle.c_values.proofs.Told.{form-refused, form-told}
 use Rattle.ticklocust.proofs.masks.ticklocust_within.Statement.{statement}
 use Rattle.ticklocust.proofs.masks.ticklocust_within.Tie as tie
 

@@ -2,7 +2,7 @@
 use mathlib.Core.Path.{refl}
 use borrow.Author.Needs.{needs}
 use Rattle.step.specs.Step.{saidCode}
-use Rattle.ticklocust.proofs.Told.{value-refused, value-told}
+use Rattle.c_values.proofs.Told.{value-refused, value-told}
 use Rattle.ticklocust.proofs.steps.ticklocust_code.Statement.{statement}
 use Rattle.ticklocust.proofs.steps.ticklocust_code.Tie as tie
 

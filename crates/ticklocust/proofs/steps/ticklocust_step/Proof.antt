@@ -2,7 +2,7 @@
 use mathlib.Core.Path.{_≡_, refl, _∙_}
 use borrow.Author.Needs.{needs}
 use Rattle.step.specs.Step.{stepCall, saidStep}
-use Rattle.ticklocust.proofs.Told.{value-told, value-refused}
+use Rattle.c_values.proofs.Told.{value-told, value-refused}
 use Rattle.ticklocust.proofs.Codes.{same-step}
 use Rattle.ticklocust.proofs.steps.ticklocust_step.Statement.{statement}
 use Rattle.ticklocust.proofs.steps.ticklocust_step.Tie as tie

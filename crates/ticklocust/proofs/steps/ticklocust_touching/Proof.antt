@@ -2,7 +2,7 @@
 use mathlib.Core.Path.{refl}
 use borrow.Author.Needs.{needs}
 use Rattle.touch.specs.Touch.{saidList}
-use Rattle.ticklocust.proofs.Told.{lent-refused, lent-told}
+use Rattle.c_values.proofs.Told.{lent-refused, lent-told}
 use Rattle.ticklocust.proofs.steps.ticklocust_touching.Statement.{statement}
 use Rattle.ticklocust.proofs.steps.ticklocust_touching.Tie as tie
 

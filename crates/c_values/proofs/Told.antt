@@ -2,7 +2,7 @@
 use Prim.Native.Nat.{ℕ}
 use mathlib.Core.Path.{_≡_, sym, ap, _∙_}
 use Rattle.refusal.specs.Answer.{Answer, given, refused}
-use Rattle.ticklocust.specs.Interface.{told, toldLent, returned, inC}
+use Rattle.c_values.specs.Values.{told, toldLent, returned, inC}
 
 -- a call with no slices, whose value stands in C's form
 module _ {E A B : Type 0} (said : E → Answer A) (f : A → B) (e e′ : E) (a : Answer A) (ensures : said e ≡ a) (known : e ≡ e′) where
