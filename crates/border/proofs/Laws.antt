@@ -18,8 +18,8 @@ use Rattle.refusal.proofs.Tests.{clash, left}
 use Rattle.varint.specs.Varint.{numeral, readCall, Exactly}
 use Rattle.varint.proofs.Laws as numbers
 use Rattle.cell.specs.Cell.{cells, maxLevel, badCell}
-use Rattle.step.specs.Step.{missing, foundOr}
-use Rattle.step.proofs.Calls.{is-found}
+use Rattle.code.specs.Step.{missing, foundOr}
+use Rattle.code.proofs.Calls.{is-found}
 use Rattle.border.specs.Stored.{valueOf, codeBytes, packed, unpacked, stored, walked, codesBetween}
 use Rattle.border.specs.Border.{maxCodes, badCount, value, after, badNumber, levelRead, startRead, countRead}
 use Rattle.border.specs.Border.{Header, header, headerTests, codeTests, readTests}

@@ -8,7 +8,7 @@ use native.Mathlib.Numerals.{add-one}
 use native.Mathlib.Omega.{arith}
 use lib.ListN.{length, take, drop, getD, length-drop}
 use lib.Seq.{take-all, take-suc}
-use Rattle.step.specs.Step.{foundOr}
+use Rattle.code.specs.Step.{foundOr}
 use Rattle.border.specs.Stored.{before, found}
 
 -- what was found, and then the rest, where there is one

@@ -12,8 +12,8 @@ use lib.ListN.{length, getD}
 use Rattle.refusal.specs.Answer.{Answer, given, refused}
 use Rattle.refusal.proofs.Answers.{given≢refused}
 use Rattle.cell.specs.Cell.{cells}
-use Rattle.step.specs.Step.{stepCall, codeCall}
-use Rattle.step.proofs.Calls.{stepped, code-past, step-below, calls-agree}
+use Rattle.code.specs.Step.{stepCall, codeCall}
+use Rattle.code.proofs.Calls.{stepped, code-past, step-below, calls-agree}
 use Rattle.border.specs.Stored.{before, onward, walked, codesBetween}
 use Rattle.border.specs.Border.{anyFrom}
 

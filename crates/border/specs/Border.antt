@@ -9,7 +9,7 @@ use Rattle.refusal.specs.Answer.{Answer, given, refused, Test, _when_, inOrder,
 use Rattle.refusal.specs.Tests.{passes, badLevel}
 use Rattle.varint.specs.Varint.{readCall}
 use Rattle.cell.specs.Cell.{cells, maxLevel, badCell}
-use Rattle.step.specs.Step.{badStep, foundOr}
+use Rattle.code.specs.Step.{badStep, foundOr}
 use Rattle.border.specs.Stored.{valueOf, codeBytes, unpacked, stored, walked, codesBetween}
 
 -- the most codes

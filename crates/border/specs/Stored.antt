@@ -7,7 +7,7 @@ use mathlib.Core.Option.{Option, none, some}
 use lib.ListN.{length}
 use Rattle.refusal.specs.Answer.{Answer, given, refused}
 use Rattle.varint.specs.Varint.{numeral}
-use Rattle.step.specs.Step.{stepCall, codeCall}
+use Rattle.code.specs.Step.{stepCall, codeCall}
 
 -- ---- codes as bits
 

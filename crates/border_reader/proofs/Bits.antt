@@ -10,7 +10,7 @@ use lib.Dec.{ltb, eqb}
 use lib.ListN.{drop, getD}
 use lib.Pow.{pow-add}
 use lib.Seq.{getD-drop}
-use Rattle.step.proofs.Laws.{code-cases}
+use Rattle.code.proofs.Laws.{code-cases}
 use Rattle.border.specs.Stored.{valueOf, codeBytes}
 use Rattle.border.proofs.Digits.{value-first, value-drop, pow-pow}
 

@@ -14,7 +14,7 @@ use Rattle.refusal.specs.Answer.{Answer, given, refused, inOrder, lending}
 use Rattle.varint.specs.Varint.{readCall}
 use Rattle.cell.specs.Cell.{cells, maxLevel}
 use Rattle.refusal.proofs.Answers.{passed, same-refusal, tests-left, lent-refused}
-use Rattle.step.specs.Step.{foundOr, stepCall}
+use Rattle.code.specs.Step.{foundOr, stepCall}
 use Rattle.border.specs.Stored.{valueOf, codeBytes, before, onward, walked}
 use Rattle.border.specs.Border.{maxCodes, Header, levelRead, startRead, countRead, header, headerTests, cellsOf, codeTests, readTests, cellsRead, readBorder}
 use Rattle.border_reader.specs.inside.Parts.{readOn}

@@ -4,7 +4,7 @@ ghost use mathlib.Core.List.{[], _++_};
 ghost use mathlib.Core.Path.{_≡_};
 ghost use Prim.Native.Nat.{_+_, _<_, _≤_};
 ghost use lib.ListN.{length, take, drop};
-ghost use Rattle.step.specs.Step.{foundOr};
+ghost use Rattle.code.specs.Step.{foundOr};
 ghost use Rattle.border.specs.Stored.{unpacked, found, walked};
 ghost use Rattle.border.specs.Border.{maxCodes};
 ghost use Rattle.border_reader.specs.Reader.{saidBorder};

@@ -15,7 +15,7 @@ use Rattle.refusal.specs.Answer.{Answer, given, refused, inOrder}
 use Rattle.refusal.proofs.Answers.{lent-refused}
 use Rattle.cell.specs.Cell.{cells, maxLevel}
 use Rattle.varint.specs.Varint.{numeral, writeCall}
-use Rattle.step.specs.Step.{codeCall}
+use Rattle.code.specs.Step.{codeCall}
 use Rattle.border.specs.Stored.{valueOf, codeBytes, packed, stored, before, onward, codesBetween}
 use Rattle.border.specs.Border.{maxCodes, anyFrom, codesOf, borderBytes, writeTests, writeBorder}
 use Rattle.border_writer.specs.inside.Parts.{writeOn}

@@ -5,7 +5,7 @@ ghost use mathlib.Core.Path.{_≡_};
 ghost use Prim.Native.Nat.{ℕ, _+_, _-_, _<_, _≤_};
 ghost use lib.ListN.{length, take, getD};
 ghost use Rattle.cell.specs.Cell.{cells as cellsOfLevel, maxLevel};
-ghost use Rattle.step.specs.Step.{foundOr};
+ghost use Rattle.code.specs.Step.{foundOr};
 ghost use Rattle.border.specs.Stored.{found};
 ghost use Rattle.border.specs.Border.{anyFrom, codesOf};
 ghost use Rattle.border_writer.specs.Writer.{saidLength};

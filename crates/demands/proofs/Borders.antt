@@ -10,7 +10,7 @@ use lib.Seq.{take-at}
 use Rattle.refusal.specs.Answer.{Answer, given, refused}
 use Rattle.refusal.proofs.Answers.{given-same}
 use Rattle.varint.specs.Varint.{numeral, groups}
-use Rattle.step.specs.Step.{foundOr, stepCall}
+use Rattle.code.specs.Step.{foundOr, stepCall}
 use Rattle.border.specs.Stored.{digitsOf, valueOf, codeBytes, packed, unpacked, stored}
 use Rattle.border.specs.Border.{codesOf, borderBytes, readBorder, writeBorder}
 use Rattle.border.proofs.Digits.{length-digits, digits-below}

@@ -10,11 +10,11 @@ use Rattle.refusal.specs.Answer.{given}
 use Rattle.refusal.proofs.Tests.{clash}
 use Rattle.cell.specs.Cell.{Triangle, up, down, Place, place, cells, maxLevel, placeCall}
 use Rattle.cell.proofs.Answers.{Given, in-range, given-place, accepts}
-use Rattle.step.specs.Step.{across, east, west, codeTo, stepCall}
-use Rattle.step.specs.Neighbours.{direct, isDirect, directCode}
-use Rattle.step.proofs.Laws as laws
-use Rattle.step.proofs.Laws.{Inner, Move, stay, over-T, over-E, over-W, step-move, move-step, code-step}
-use Rattle.step.proofs.Calls.{stepped, joined}
+use Rattle.code.specs.Step.{across, east, west, codeTo, stepCall}
+use Rattle.code.specs.Neighbours.{direct, isDirect, directCode}
+use Rattle.code.proofs.Laws as laws
+use Rattle.code.proofs.Laws.{Inner, Move, stay, over-T, over-E, over-W, step-move, move-step, code-step}
+use Rattle.code.proofs.Calls.{stepped, joined}
 use Rattle.demands.specs.Demand2.{Inside, up-t, up-l, up-r, up-e, up-w, down-t, down-l, down-r, down-e, down-w}
 
 -- a cell of the level has its place

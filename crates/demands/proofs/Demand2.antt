@@ -19,8 +19,8 @@ use Rattle.position.specs.Position.{latitudeOut, longitudeOut, placeAt, cellCal
 use Rattle.position.proofs.Laws.{offset-below, beginning-and-offset, place-at-occurs}
 use Rattle.position.proofs.Calls.{answers, answered, answered-holds, answered-alone, answered-pole, south-mirror, answered-nested}
 use Rattle.centre.proofs.Calls.{return-call, centre-returns}
-use Rattle.step.proofs.Laws.{east-runs}
-use Rattle.step.proofs.Calls.{calls-agree, code-once, call-back, three-neighbours, no-code-joins, code-past}
+use Rattle.code.proofs.Laws.{east-runs}
+use Rattle.code.proofs.Calls.{calls-agree, code-once, call-back, three-neighbours, no-code-joins, code-past}
 use Rattle.touch.proofs.Laws.{touching-6, touching-10, touching-12, cells-at-4, cells-at-6}
 use Rattle.touch.proofs.Indirect.{direct-3, indirect-3, indirect-7}
 use Rattle.fill.proofs.Laws.{fill-exactly, border-filled, outside-not-filled}

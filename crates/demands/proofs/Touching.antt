@@ -15,9 +15,9 @@ use Rattle.refusal.specs.Tests.{badLevel, badLength}
 use Rattle.refusal.proofs.Answers.{passed, gives}
 use Rattle.refusal.proofs.Tests.{clash, both, parts}
 use Rattle.cell.specs.Cell.{Triangle, up, down, Place, place, cells, maxLevel, badCell}
-use Rattle.step.specs.Neighbours.{direct}
-use Rattle.step.specs.Step.{stepCall}
-use Rattle.step.proofs.Calls.{stepped}
+use Rattle.code.specs.Neighbours.{direct}
+use Rattle.code.specs.Step.{stepCall}
+use Rattle.code.proofs.Calls.{stepped}
 use Rattle.corner.specs.Corner.{Point, coordinate, pointIn, corner, triangleCorners, corners, common, touches, touchCall}
 use Rattle.corner.proofs.Common.{index-cases, three, same-coordinates, common-meeting, shared-common}
 use Rattle.corner.proofs.Laws.{touches-symmetric}

@@ -15,7 +15,7 @@ use Rattle.varint.specs.Varint.{numeral, readCall, EndsEarly, NotInForm, writeC
 use Rattle.cell.specs.Cell.{Place, place, number, cells, maxLevel, badCell, badPlace, placeCall, numberCall}
 use Rattle.position.specs.Position.{placeAt, badLatitude, badLongitude, cellCall}
 use Rattle.centre.specs.Centre.{centre, centreCall}
-use Rattle.step.specs.Step.{step, foundOr, codeTo, badStep, stepTarget, stepCall, codeCall}
+use Rattle.code.specs.Step.{step, foundOr, codeTo, badStep, stepTarget, stepCall, codeCall}
 use Rattle.border.specs.Stored.{codeBytes}
 use Rattle.border.specs.Border.{badCount, badNumber, badPadding, levelRead, startRead, countRead, header, cellsOf, readBorder, anyFrom, codesOf, borderBytes, writeBorder}
 use Rattle.corner.specs.Corner.{touches, touchCall}

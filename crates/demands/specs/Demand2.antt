@@ -13,8 +13,8 @@ use Rattle.bitset.specs.Bits.{Bytes, bit, marked, size}
 use Rattle.cell.specs.Cell.{Triangle, up, down, child, Place, place, Occurs, cells, maxLevel, placeCall, numberCall}
 use Rattle.position.specs.Position.{q, latitudeOut, longitudeOut, beginning, northOctant, offset, octant, Holds, cellCall}
 use Rattle.centre.specs.Centre.{centreCall}
-use Rattle.step.specs.Step.{across, east, west, stepCall, codeCall}
-use Rattle.step.specs.Neighbours.{back, direct, isDirect, Neighbours}
+use Rattle.code.specs.Step.{across, east, west, stepCall, codeCall}
+use Rattle.code.specs.Neighbours.{back, direct, isDirect, Neighbours}
 use Rattle.varint.specs.Varint.{numeral, readCall, Exactly, EndsEarly, NotInForm}
 use Rattle.border.specs.Border.{readBorder, borderBytes, writeBorder}
 use Rattle.corner.specs.Corner.{Point, norm, corners, touchCall}

@@ -11,10 +11,10 @@ use Rattle.cell.specs.declared.Kind.{Kind}
 use Rattle.cell.specs.declared.Kind.the-variants.{Up, Down}
 use Rattle.cell.specs.Cell.{Triangle, up, down, row, col, span, triangleOf, Place, place, Occurs, cells}
 use Rattle.cell.proofs.Laws.{place-occurs}
-use Rattle.step.specs.Step.{across, east, west, codeTo}
-use Rattle.step.specs.Neighbours.{direct, directCode, isDirect}
-use Rattle.step.proofs.Laws.{Inner, up-t, up-l, up-r, up-e, up-w, down-t, down-l, down-r, down-e, down-w}
-use Rattle.step.proofs.Laws.{Move, stay, over-T, over-E, over-W, step-move, move-step, code-step}
+use Rattle.code.specs.Step.{across, east, west, codeTo}
+use Rattle.code.specs.Neighbours.{direct, directCode, isDirect}
+use Rattle.code.proofs.Laws.{Inner, up-t, up-l, up-r, up-e, up-w, down-t, down-l, down-r, down-e, down-w}
+use Rattle.code.proofs.Laws.{Move, stay, over-T, over-E, over-W, step-move, move-step, code-step}
 use Rattle.rows.specs.Rows.{spot}
 use Rattle.rows.proofs.Spots.{spot-same}
 use Rattle.flood.proofs.Crossing.{size-low}

@@ -14,9 +14,9 @@ use Rattle.refusal.proofs.Tests.{both}
 use Rattle.bitset.specs.Bits.{marked}
 use Rattle.cell.specs.Cell.{up, down, span, Place, place, number, Occurs, cells}
 use Rattle.cell.proofs.Laws.{place-occurs, number-below, place-number, number-place}
-use Rattle.step.specs.Step.{across, east, codeTo}
-use Rattle.step.specs.Neighbours.{direct, directCode, isDirect}
-use Rattle.step.proofs.Laws.{Move, stay, over-T, over-E, up-r, down-r, down-t, move-step, step-occurs, code-step}
+use Rattle.code.specs.Step.{across, east, codeTo}
+use Rattle.code.specs.Neighbours.{direct, directCode, isDirect}
+use Rattle.code.proofs.Laws.{Move, stay, over-T, over-E, up-r, down-r, down-t, move-step, step-occurs, code-step}
 use Rattle.fill.specs.Fill.{openStep, reachable, fillCall}
 use Rattle.fill.proofs.Answers.{ready}
 use Rattle.fill.proofs.Laws.{reachable-self, reachable-step, reachable-trans, reachable-back, fill-marks}

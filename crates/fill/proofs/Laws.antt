@@ -12,9 +12,9 @@ use Rattle.bitset.specs.Bits.{marked, outside}
 use Rattle.bitset.proofs.Laws.{marked-bytesOf, bytesOf-cong}
 use Rattle.cell.specs.Cell.{place, cells}
 use Rattle.cell.proofs.Laws.{place-occurs, number-below, number-place}
-use Rattle.step.specs.Step.{codeTo}
-use Rattle.step.specs.Neighbours.{isDirect, directCode}
-use Rattle.step.proofs.Laws.{code-step, step-occurs, direct-mutual}
+use Rattle.code.specs.Step.{codeTo}
+use Rattle.code.specs.Neighbours.{isDirect, directCode}
+use Rattle.code.proofs.Laws.{code-step, step-occurs, direct-mutual}
 use Rattle.walk.specs.Reach.{reaches}
 use Rattle.walk.proofs.Walks.{Stepwise, walk-reach}
 use Rattle.walk.proofs.Reach.{reach-zero, reach-self, reach-stay, reach-step, reach-out, reach-trans}

@@ -11,7 +11,7 @@ use Rattle.bitset.specs.Bits.{bytesOf, outside}
 use Rattle.bitset.proofs.Laws.{bytesOf-cong}
 use Rattle.cell.specs.declared.Kind.{Kind}
 use Rattle.cell.specs.Cell.{Triangle, up, down, row, col, triangleOf, place, cells}
-use Rattle.step.specs.Neighbours.{isDirect}
+use Rattle.code.specs.Neighbours.{isDirect}
 use Rattle.walk.specs.Reach.{reaches}
 use Rattle.walk.proofs.Reach.{reach-zero, reach-out}
 use Rattle.raster.specs.Raster.{cellAt, triangleLit, cellLit}

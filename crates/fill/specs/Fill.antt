@@ -6,7 +6,7 @@ use Rattle.refusal.specs.Answer.{Answer, given, refused, Test, _when_, inOrder,
 use Rattle.refusal.specs.Tests.{badLevel, badLength}
 use Rattle.bitset.specs.Bits.{marked, bytesOf, outside}
 use Rattle.cell.specs.Cell.{cells, badCell}
-use Rattle.step.specs.Neighbours.{isDirect}
+use Rattle.code.specs.Neighbours.{isDirect}
 use Rattle.mask.specs.Mask.{maxMaskLevel}
 use Rattle.walk.specs.Walk.{Walk}
 use Rattle.walk.specs.Reach.{reaches}

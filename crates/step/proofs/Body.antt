@@ -15,9 +15,9 @@ use Rattle.cell.specs.declared.Kind.{Kind}
 use Rattle.cell.specs.declared.Kind.the-variants.{Up, Down}
 use Rattle.cell.specs.declared.Place as declared
 use Rattle.cell.proofs.Laws.{shifted}
-use Rattle.step.specs.Step.{less, foundIf, inside, steps, step, leadsTo}
+use Rattle.code.specs.Step.{less, foundIf, inside, steps, step, leadsTo}
 use Rattle.step.specs.inside.Target.{sameKind, samePlace}
-use Rattle.step.proofs.Laws.{code-cases, one-place}
+use Rattle.code.proofs.Laws.{code-cases, one-place}
 
 -- N as the code shifts it
 pub rows-shifted : (k : ℕ) → k ≤ maxLevel → 1 * 2 ^ k % 2 ^ 32 ≡ 2 ^ k

@@ -7,8 +7,8 @@ use mathlib.Core.Option.{Option}
 use Rattle.refusal.specs.Answer.{inOrder}
 use Rattle.refusal.specs.Tests.{badLevel}
 use Rattle.cell.specs.Cell.{Place, place, number, maxLevel, badCell}
-use Rattle.step.specs.Step.{badStep, foundOr, stepCall}
-use Rattle.step.proofs.Laws.{past-seven}
+use Rattle.code.specs.Step.{badStep, foundOr, stepCall}
+use Rattle.code.proofs.Laws.{past-seven}
 
 pub same-step : (k n c d : ℕ) → (c ≡ d) ⊎ ((7 < c) × (7 < d)) → stepCall k n c ≡ stepCall k n d
 same-step k n c d (inl e) = ap (stepCall k n) e

@@ -10,10 +10,10 @@ use lib.ListN.{getD}
 use Rattle.refusal.proofs.Tests.{clash}
 use Rattle.cell.specs.Cell.{Triangle, up, down, span, Place, place, Occurs, cells}
 use Rattle.cell.proofs.Laws.{place-occurs}
-use Rattle.step.specs.Step.{across, east, west, codeTo}
-use Rattle.step.proofs.Laws.{Inner, up-t, up-l, up-r, up-e, up-w, down-t, down-l, down-r, down-e, down-w}
-use Rattle.step.specs.Neighbours.{direct, Direct}
-use Rattle.step.proofs.Laws.{Move, stay, over-T, over-E, over-W, step-move, code-step}
+use Rattle.code.specs.Step.{across, east, west, codeTo}
+use Rattle.code.proofs.Laws.{Inner, up-t, up-l, up-r, up-e, up-w, down-t, down-l, down-r, down-e, down-w}
+use Rattle.code.specs.Neighbours.{direct, Direct}
+use Rattle.code.proofs.Laws.{Move, stay, over-T, over-E, over-W, step-move, code-step}
 use Rattle.corner.specs.Corner.{corner, triangleCorners, corners, common, touches}
 use Rattle.corner.proofs.Common.{common-symmetric, shared-common}
 use Rattle.corner.proofs.Laws.{equator, meridian}

@@ -11,9 +11,9 @@ use lib.ListN.{length}
 use Rattle.refusal.proofs.Tests.{clash}
 use Rattle.cell.specs.Cell.{Place, place, number, cells}
 use Rattle.cell.proofs.Laws.{place-occurs, number-below, place-number, number-place}
-use Rattle.step.specs.Step.{step, codeTo}
-use Rattle.step.specs.Neighbours.{direct, directCode, isDirect, One}
-use Rattle.step.proofs.Laws.{three-direct, step-occurs, code-unique, code-step, direct-low}
+use Rattle.code.specs.Step.{step, codeTo}
+use Rattle.code.specs.Neighbours.{direct, directCode, isDirect, One}
+use Rattle.code.proofs.Laws.{three-direct, step-occurs, code-unique, code-step, direct-low}
 use Rattle.corner.specs.Corner.{touches}
 use Rattle.touch.specs.Touch.{rising, touching, indirect, CornerCell}
 use Rattle.touch.proofs.Counts.{passes}

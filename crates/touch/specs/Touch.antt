@@ -9,7 +9,7 @@ use lib.ListN.{length, replicate}
 use Rattle.refusal.specs.Answer.{Answer, given, refused, inOrder, lending}
 use Rattle.refusal.specs.Tests.{badLevel, badLength}
 use Rattle.cell.specs.Cell.{up, Place, place, maxLevel, cells, badCell}
-use Rattle.step.specs.Neighbours.{isDirect}
+use Rattle.code.specs.Neighbours.{isDirect}
 use Rattle.corner.specs.Corner.{Point, coordinate, corners, among, touches}
 use Rattle.touch.specs.declared.ListAnswer.{ListAnswer}
 use Rattle.touch.specs.declared.ListAnswer.the-variants as list-answer

@@ -7,7 +7,7 @@ use Rattle.refusal.specs.Answer.{given}
 use Rattle.cell.specs.Cell.{up, down, placeCall}
 use Rattle.position.specs.Position.{cellCall}
 use Rattle.centre.specs.Centre.{centreCall}
-use Rattle.step.specs.Step.{stepCall}
+use Rattle.code.specs.Step.{stepCall}
 use Rattle.grow.specs.Grow.{growCall, shrinkCall}
 use Rattle.fill.specs.Fill.{fillCall}
 

@@ -3,7 +3,7 @@ use Prim.Native.Nat.{ℕ, _≤_}
 use mathlib.Core.List.{List, [], _++_}
 use lib.ListN.{length, drop}
 use Rattle.refusal.specs.Answer.{Answer, given, refused, inOrder, lending}
-use Rattle.step.specs.Step.{foundOr}
+use Rattle.code.specs.Step.{foundOr}
 use Rattle.border.specs.Border.{maxCodes, Header, cellsOf, codeTests}
 use Rattle.border_reader.specs.declared.header.Header as declared
 use Rattle.border_reader.specs.declared.header.HeaderAnswer.{HeaderAnswer}

@@ -4,7 +4,7 @@ use mathlib.Core.Path.{refl, _∙_}
 use borrow.Author.Needs.{needs}
 use Rattle.cell.specs.Cell.{placeOf}
 use Rattle.cell.proofs.Answers.{Given, given-place}
-use Rattle.step.proofs.Calls.{refused-from, refused-to, given-code}
+use Rattle.code.proofs.Calls.{refused-from, refused-to, given-code}
 use Rattle.step.proofs.code_between.Statement.{statement}
 use Rattle.step.proofs.code_between.Tie as tie
 

@@ -6,8 +6,8 @@ use mathlib.Core.Path.{_≡_, sym, _∙_}
 use native.Mathlib.Omega.{arith}
 use borrow.Author.Count.{below-more}
 use Rattle.cell.specs.Cell.{placeOf, number}
-use Rattle.step.specs.Step.{step, leadsTo}
-use Rattle.step.proofs.Laws.{code-leads, no-code}
+use Rattle.code.specs.Step.{step, leadsTo}
+use Rattle.code.proofs.Laws.{code-leads, no-code}
 use Rattle.step.proofs.find_code.Statement.{statement}
 use Rattle.step.proofs.find_code.Tie as tie
 

@@ -7,7 +7,7 @@ use native.Mathlib.Omega.{arith}
 use borrow.Author.Needs.{needs}
 use borrow.Author.Tests.{le-leb}
 use Rattle.cell.specs.Cell.{span, down, maxLevel}
-use Rattle.step.specs.Step.{step, steps}
+use Rattle.code.specs.Step.{step, steps}
 use Rattle.step.proofs.Body.{rows-bound, inside-less, inside-test, down-stays, missed}
 use Rattle.step.proofs.from_down.Statement.{statement}
 use Rattle.step.proofs.from_down.Tie as tie

@@ -6,8 +6,8 @@ use mathlib.Core.Path.{sym}
 use native.Mathlib.Omega.{arith}
 use borrow.Author.Needs.{needs}
 use Rattle.cell.specs.Cell.{span, up, down, maxLevel}
-use Rattle.step.specs.Step.{across, east, west, step, steps}
-use Rattle.step.proofs.Laws.{past-seven}
+use Rattle.code.specs.Step.{across, east, west, step, steps}
+use Rattle.code.proofs.Laws.{past-seven}
 use Rattle.step.proofs.Body.{rows-shifted, rows-bound, inside-less, inside-test, missed}
 use Rattle.step.proofs.from_up.Statement.{statement}
 use Rattle.step.proofs.from_up.Tie as tie

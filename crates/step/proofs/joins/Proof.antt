@@ -3,7 +3,7 @@
 use mathlib.Core.Path.{sym, _∙_}
 use borrow.Author.Needs.{needs}
 use Rattle.cell.specs.Cell.{placeOf}
-use Rattle.step.proofs.Laws.{step-occurs}
+use Rattle.code.proofs.Laws.{step-occurs}
 use Rattle.step.proofs.Body.{same-leads}
 use Rattle.step.proofs.joins.Statement.{statement}
 use Rattle.step.proofs.joins.Tie as tie

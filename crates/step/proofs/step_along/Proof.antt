@@ -8,9 +8,9 @@ use borrow.Author.Needs.{needs}
 use Rattle.refusal.proofs.Answers.{same-refusal}
 use Rattle.cell.specs.Cell.{numberCall, placeOf, cellTests}
 use Rattle.cell.proofs.Answers.{Given, given-place, given-number}
-use Rattle.step.specs.Step.{step, badStep, stepCall}
-use Rattle.step.proofs.Laws.{step-occurs}
-use Rattle.step.proofs.Calls.{given-step}
+use Rattle.code.specs.Step.{step, badStep, stepCall}
+use Rattle.code.proofs.Laws.{step-occurs}
+use Rattle.code.proofs.Calls.{given-step}
 use Rattle.step.proofs.step_along.Statement.{statement}
 use Rattle.step.proofs.step_along.Tie as tie
 

@@ -7,7 +7,7 @@ use borrow.Author.Tests.{ltb-true, ltb-false, not-true, not-false}
 use lib.Dec.{ltb}
 use lib.ListN.{length, take, drop, length-drop}
 use lib.Seq.{length-take-le}
-use Rattle.step.specs.Step.{foundOr}
+use Rattle.code.specs.Step.{foundOr}
 use Rattle.border.specs.Stored.{valueOf, codeBytes, unpacked, walked}
 use Rattle.border.specs.Border.{cellsOf}
 use Rattle.border.specs.Stored.{found}

@@ -7,7 +7,8 @@ use native.Mathlib.Omega.{arith}
 use borrow.Author.Needs.{needs}
 use lib.ListN.{length, take, drop, length-set, drop-of-length-le}
 use lib.Seq.{getD-set-same}
-use Rattle.step.specs.Step.{foundOr, stepCall, saidStep}
+use Rattle.code.specs.Step.{foundOr, stepCall}
+use Rattle.step.specs.Step.{saidStep}
 use Rattle.border.specs.Stored.{unpacked, valueOf}
 use Rattle.border.specs.Stored.{found}
 use Rattle.border.proofs.Digits.{length-digits, drop-digits}
@@ -15,7 +16,7 @@ use Rattle.border_reader.proofs.Reading.{Walked, walk-begins, walk-goes
 use Rattle.border_reader.proofs.walking.walk.Statement.{statement}
 use Rattle.border_reader.proofs.walking.walk.Tie as tie
 use Rattle.border_reader.proofs.codes.code_at.Reads as code-at-reads
-use Rattle.step.proofs.step_along.Reads as step-along-reads
+use Rattle.code.proofs.step_along.Reads as step-along-reads
 
 abbrev Inv-loop : tie.InvT-loop
 Inv-loop level start codes count met₀ cell₀ i₀ met cell i =

@@ -1,7 +1,8 @@
 -- `ticklocust_step` meets its contract. Assumes nothing.
 use mathlib.Core.Path.{_≡_, refl, _∙_}
 use borrow.Author.Needs.{needs}
-use Rattle.step.specs.Step.{stepCall, saidStep}
+use Rattle.code.specs.Step.{stepCall}
+use Rattle.step.specs.Step.{saidStep}
 use Rattle.c_values.proofs.Told.{value-told, value-refused}
 use Rattle.ticklocust.proofs.Codes.{same-step}
 use Rattle.ticklocust.proofs.steps.ticklocust_step.Statement.{statement}

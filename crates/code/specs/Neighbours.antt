@@ -8,7 +8,7 @@ use mathlib.Core.Path.{_≡_}
 use lib.ListN.{getD}
 use Rattle.refusal.specs.Answer.{given, refused}
 use Rattle.cell.specs.Cell.{Place, place}
-use Rattle.step.specs.Step.{step, codeTo, stepCall}
+use Rattle.code.specs.Step.{step, codeTo, stepCall}
 
 -- the code back: t and T are their own, l and r change places, and so do e and w, E and W
 unfoldable pub back : ℕ → ℕ

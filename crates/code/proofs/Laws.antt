@@ -15,8 +15,8 @@ use borrow.Author.Tests.{leb-true, leb-false, eqb-true, le-leb, eq-eqb, ne-eqb}
 use Rattle.refusal.proofs.Tests.{clash}
 use Rattle.cell.specs.Cell.{Triangle, up, down, span, Place, place, number, Occurs}
 use Rattle.cell.proofs.Laws.{place-number, number-place}
-use Rattle.step.specs.Step.{across, east, west, less, foundIf, inside, steps, step, leadsTo, firstTrue, codeTo}
-use Rattle.step.specs.Neighbours.{back, direct, Direct, One, Three}
+use Rattle.code.specs.Step.{across, east, west, less, foundIf, inside, steps, step, leadsTo, firstTrue, codeTo}
+use Rattle.code.specs.Neighbours.{back, direct, Direct, One, Three}
 
 -- ---- the table as a relation
 
