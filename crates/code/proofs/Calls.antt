@@ -122,9 +122,9 @@ given-code k m n p r s g g′ e =
     let i : number k r ≡ n = ap (number k) (sym (g′ .at)) ∙ number-place k n in
     let f : codeTo k n (place k m) ≡ s = rw (g .at, ← i) e in
     let second = gives (badCell k n ∷ []) (place k n) (lt-leb (cells k) n (g′ .below), tt) in
-    rw f
-    (tests-left (badCell k n ∷ []) (badStep s ∷ []) _ _ (foundOr 0 s) second
-    ∙ tests-left (cellTests k m) (badCell k n ∷ badStep s ∷ []) _ _ (foundOr 0 s) (accepts k m (place k m) (g .level) (g .below)))
+    tests-left (badCell k n ∷ []) (badStep s ∷ []) _ _ (foundOr 0 s) second
+    ∙ tests-left (cellTests k m) (badCell k n ∷ badStep s ∷ []) _ _ (foundOr 0 s) (accepts k m (place k m) (g .level) (g .below))
+    ∙ ap (λ (o : Option ℕ). inOrder (badLevel maxLevel k ∷ badCell k m ∷ badCell k n ∷ badStep o ∷ []) (foundOr 0 o)) (sym f)
 
 -- the code between two cells is c exactly where the step along c leads from the one to the other
 pub calls-agree : (k n m c : ℕ) → (codeCall k n m ≡ given c) ↔ (stepCall k n c ≡ given m)
