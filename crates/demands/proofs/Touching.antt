@@ -21,9 +21,9 @@ use Rattle.code.proofs.Calls.{stepped}
 use Rattle.corner.specs.Corner.{Point, coordinate, pointIn, corner, triangleCorners, corners, common, touches, touchCall}
 use Rattle.corner.proofs.Common.{index-cases, three, same-coordinates, common-meeting, shared-common}
 use Rattle.corner.proofs.Laws.{touches-symmetric}
-use Rattle.touch.specs.Touch.{rising, touching, unused, padded, listCall}
-use Rattle.touch.proofs.Listed.{touching-few}
-use Rattle.touch.proofs.Direct.{direct-touches}
+use Rattle.adjacency.specs.Touch.{rising, touching, unused, padded, listCall}
+use Rattle.adjacency.proofs.Listed.{touching-few}
+use Rattle.adjacency.proofs.Direct.{direct-touches}
 use Rattle.demands.specs.Demand2.{In, Rises, TouchList}
 
 -- ---- the call

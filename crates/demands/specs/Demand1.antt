@@ -19,7 +19,7 @@ use Rattle.code.specs.Step.{step, foundOr, codeTo, badStep, stepTarget, stepCal
 use Rattle.border.specs.Stored.{codeBytes}
 use Rattle.border.specs.Border.{badCount, badNumber, badPadding, levelRead, startRead, countRead, header, cellsOf, readBorder, anyFrom, codesOf, borderBytes, writeBorder}
 use Rattle.corner.specs.Corner.{touches, touchCall}
-use Rattle.touch.specs.Touch.{touching, padded, listCall}
+use Rattle.adjacency.specs.Touch.{touching, padded, listCall}
 use Rattle.mask.specs.Mask.{maxMaskLevel, maskCall, countCall, union, joinCall, difference, lowest, withinCall}
 use Rattle.grow.specs.Grow.{badRings, grownCells, shrunkCells, growCall, shrinkCall}
 use Rattle.fill.specs.Fill.{unreached, badOutside, fillCall}

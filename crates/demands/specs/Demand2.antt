@@ -18,7 +18,7 @@ use Rattle.code.specs.Neighbours.{back, direct, isDirect, Neighbours}
 use Rattle.varint.specs.Varint.{numeral, readCall, Exactly, EndsEarly, NotInForm}
 use Rattle.border.specs.Border.{readBorder, borderBytes, writeBorder}
 use Rattle.corner.specs.Corner.{Point, norm, corners, touchCall}
-use Rattle.touch.specs.Touch.{rising, indirect, CornerCell, cellsAt, Tip, unused, listCall}
+use Rattle.adjacency.specs.Touch.{rising, indirect, CornerCell, cellsAt, Tip, unused, listCall}
 use Rattle.mask.specs.Mask.{maxMaskLevel}
 use Rattle.fill.specs.Fill.{Reachable, fillCall}
 use Rattle.chart.specs.Chart.{inRange, Reading, fresh, carried, gap, temperatureAt, ageAt, readingCall}

@@ -3,7 +3,7 @@ ghost use mathlib.Core.Path.{_≡_};
 ghost use mathlib.Core.Logic.{_⊎_};
 ghost use Prim.Native.Nat.{_<_};
 ghost use Rattle.code.specs.Step.{stepCall, codeCall};
-ghost use Rattle.touch.specs.Touch.{listCall};
+ghost use Rattle.adjacency.specs.Touch.{listCall};
 ghost use Rattle.c_values.specs.Values.{told, toldLent};
 use step::CodeAnswer;
 use step::StepAnswer;

@@ -1,16 +1,4 @@
-pub mod Sides
-pub mod Cubes
-pub mod Vertices
-pub mod Ways
-pub mod Sorted
-pub mod Counts
-pub mod Collect
-pub mod Ranked
-pub mod Steps
-pub mod Twelve
-pub mod Listed
-pub mod Found
-pub mod CellsAt
-pub mod Laws
-pub mod Direct
-pub mod Indirect
+mod Ranked
+mod Steps
+mod Twelve
+mod Found

@@ -15,14 +15,14 @@ use Rattle.cell.specs.declared.Kind.the-variants.{Up, Down}
 use Rattle.cell.specs.Cell.{Triangle, Place, Occurs, span, row, col, triangleOf, number, maxLevel}
 use Rattle.cell.proofs.Laws.{digit-cases}
 use Rattle.corner.specs.Corner.{quarters, equatorial}
-use Rattle.touch.specs.declared.cube.Side.{Side}
-use Rattle.touch.specs.declared.cube.Cube.{Cube}
+use Rattle.adjacency.specs.declared.Side.{Side}
+use Rattle.adjacency.specs.declared.Cube.{Cube}
 use Rattle.corner.proofs.Octants.{octant-cases}
-use Rattle.touch.specs.inside.Cube.{sideOf, sum, leftOver, equatorialSides, cubeOf, inward, moved, movedCube, least, most, taken, sumsFit, touchingWay, placeOfCube, cellAlong}
+use Rattle.adjacency.specs.Cube.{sideOf, sum, leftOver, equatorialSides, cubeOf, inward, moved, movedCube, least, most, taken, sumsFit, touchingWay, placeOfCube, cellAlong}
 use Rattle.touch.specs.inside.Inner.{isInner, innerWays, innerWay, other, stepped}
-use Rattle.touch.proofs.Cubes.{room, room-small, span-is, sum-cube, place-cube, row-of, col-of}
+use Rattle.adjacency.proofs.Cubes.{room, room-small, span-is, sum-cube, place-cube, row-of, col-of}
 use Rattle.touch.proofs.Steps.{all, all-at, five}
-use Rattle.touch.proofs.Ways.{three-ways, AxesOf, axes, a-cell}
+use Rattle.adjacency.proofs.Ways.{three-ways, AxesOf, axes, a-cell}
 
 -- ---- the twelve ways along the axes of the octants: in every other octant L and the column change places
 

@@ -1,4 +1,3 @@
 -- What private functions claim.
-pub mod Cube
 pub mod Order
 pub mod Inner

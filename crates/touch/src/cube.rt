@@ -3,24 +3,13 @@ ghost use mathlib.Core.Path.{_≡_};
 ghost use mathlib.Core.Bool.{cond};
 ghost use Prim.Native.Nat.{_+_, _-_, _^_, _<_, _≤_};
 ghost use Rattle.cell.specs.Cell.{Occurs, span, triangleOf, placeOf, number, maxLevel};
-ghost use Rattle.touch.specs.inside.Cube.{sum, equatorialSides, cubeOf, northernOctant, column, placeIn};
+ghost use Rattle.adjacency.specs.Cube.{sum, equatorialSides, cubeOf, northernOctant, column, placeIn};
+use adjacency::Cube;
+use adjacency::Side;
 use cell::CellNumber;
 use cell::Kind;
 use cell::NumberAnswer;
 use cell::Place;
-
-// One axis of the unit cube that a cell spans: its corners lie at base or base + 1 from zero, on one side of it.
-pub(crate) struct Side {
-    pub(crate) negative: bool,
-    pub(crate) base: u32,
-}
-
-// The unit cube that a cell spans, by its three axes.
-pub(crate) struct Cube {
-    pub(crate) x: Side,
-    pub(crate) y: Side,
-    pub(crate) z: Side,
-}
 
 // The first of the two sides that an octant gives to L and R. The second is the first of the octant three on.
 fn first_side(octant: u32, l: u32, r: u32) -> Side

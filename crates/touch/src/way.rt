@@ -1,9 +1,9 @@
 // The 27 ways from a cube to itself and its neighbours: on each axis 0 towards zero, or across it, 1 none, 2 away from zero.
 ghost use mathlib.Core.Path.{_≡_};
 ghost use Prim.Native.Nat.{_+_, _^_, _<_, _≤_};
-ghost use Rattle.touch.specs.inside.Cube.{moved, movedCube, taken, sumsFit, touchingWay};
-use crate::cube::Cube;
-use crate::cube::Side;
+ghost use Rattle.adjacency.specs.Cube.{moved, movedCube, taken, sumsFit, touchingWay};
+use adjacency::Cube;
+use adjacency::Side;
 
 // A side one way on: 0 towards zero, or across it, 1 the same, 2 away from zero.
 fn side_along(side: Side, way: u32) -> Side

@@ -6,7 +6,7 @@ use lib.Pow.{pow-mono}
 use Rattle.cell.specs.Cell.{triangleOf, maxLevel}
 use Rattle.cell.proofs.Laws.{shifted}
 use Rattle.touch.specs.inside.Inner.{isInner}
-use Rattle.touch.proofs.Cubes.{span-is, row-of, col-of}
+use Rattle.adjacency.proofs.Cubes.{span-is, row-of, col-of}
 use borrow.Author.Needs.{needs}
 use Rattle.touch.proofs.inner.is_inner.Statement.{statement}
 use Rattle.touch.proofs.inner.is_inner.Tie as tie

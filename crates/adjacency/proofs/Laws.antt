@@ -14,16 +14,16 @@ use Rattle.cell.specs.Cell.{Triangle, up, down, span, Place, triangle, place, O
 use Rattle.cell.proofs.Laws.{place-occurs}
 use Rattle.corner.specs.Corner.{Point, norm, corners, coordinate}
 use Rattle.corner.proofs.Octants.{octant-cases}
-use Rattle.touch.specs.declared.cube.Side.{Side}
-use Rattle.touch.specs.Touch.{Tip, CornerCell, touching, cellsAt}
-use Rattle.touch.specs.inside.Cube.{sum, leftOver, cubeOf, placeOfCube, moved, least, most, touchingWay, equatorialSides, sideOf}
-use Rattle.touch.proofs.Sides.{WayBetween, common-end}
-use Rattle.touch.proofs.Cubes.{room, room-small, place-cube}
-use Rattle.touch.proofs.Vertices.{vertex, corner-vertex, vertex-corner}
-use Rattle.touch.proofs.Ways.{way-told, room-is}
-use Rattle.touch.proofs.Counts.{passes, upWays, up-ways, down-ways, zero-patterns}
-use Rattle.touch.proofs.Listed.{touching-ways}
-use Rattle.touch.proofs.CellsAt.{cells-count, tip-cells, other-cells}
+use Rattle.adjacency.specs.declared.Side.{Side}
+use Rattle.adjacency.specs.Touch.{Tip, CornerCell, touching, cellsAt}
+use Rattle.adjacency.specs.Cube.{sum, leftOver, cubeOf, placeOfCube, moved, least, most, touchingWay, equatorialSides, sideOf}
+use Rattle.adjacency.proofs.Sides.{WayBetween, common-end}
+use Rattle.adjacency.proofs.Cubes.{room, room-small, place-cube}
+use Rattle.adjacency.proofs.Vertices.{vertex, corner-vertex, vertex-corner}
+use Rattle.adjacency.proofs.Ways.{way-told, room-is}
+use Rattle.adjacency.proofs.Counts.{passes, upWays, up-ways, down-ways, zero-patterns}
+use Rattle.adjacency.proofs.Listed.{touching-ways}
+use Rattle.adjacency.proofs.CellsAt.{cells-count, tip-cells, other-cells}
 
 -- ---- a cell is told by its corners
 

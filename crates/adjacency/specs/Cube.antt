@@ -8,8 +8,8 @@ use lib.Dec.{leb, eqb}
 use lib.ListN.{set}
 use Rattle.cell.specs.Cell.{Triangle, up, down, span, row, col, Place, number}
 use Rattle.corner.specs.Corner.{equatorial}
-use Rattle.touch.specs.declared.cube.Side.{Side}
-use Rattle.touch.specs.declared.cube.Cube.{Cube}
+use Rattle.adjacency.specs.declared.Side.{Side}
+use Rattle.adjacency.specs.declared.Cube.{Cube}
 
 -- ---- cubes
 

@@ -15,11 +15,11 @@ use Rattle.code.specs.Step.{step, codeTo}
 use Rattle.code.specs.Neighbours.{direct, directCode, isDirect, One}
 use Rattle.code.proofs.Laws.{three-direct, step-occurs, code-unique, code-step, direct-low}
 use Rattle.corner.specs.Corner.{touches}
-use Rattle.touch.specs.Touch.{rising, touching, indirect, CornerCell}
-use Rattle.touch.proofs.Counts.{passes}
-use Rattle.touch.proofs.Collect.{isFound, rising-count}
-use Rattle.touch.proofs.Direct.{code-touches}
-use Rattle.touch.proofs.Laws.{touching-6, touching-10, touching-12}
+use Rattle.adjacency.specs.Touch.{rising, touching, indirect, CornerCell}
+use Rattle.adjacency.proofs.Counts.{passes}
+use Rattle.adjacency.proofs.Collect.{isFound, rising-count}
+use Rattle.adjacency.proofs.Direct.{code-touches}
+use Rattle.adjacency.proofs.Laws.{touching-6, touching-10, touching-12}
 
 -- ---- a list parted by a test
 

@@ -10,11 +10,11 @@ use Rattle.cell.specs.Cell.{Triangle, up, down, span, Place, Occurs, row, col}
 use Rattle.cell.proofs.Laws.{digit-cases}
 use Rattle.corner.specs.Corner.{Point, minus, equatorial, polar, pointIn, corner, triangleCorners, corners, quarters}
 use Rattle.corner.proofs.Common.{three, index-cases}
-use Rattle.touch.specs.declared.cube.Side.{Side}
-use Rattle.touch.specs.declared.cube.Cube.{Cube}
-use Rattle.touch.specs.inside.Cube.{sideOf, leftOver, cubeOf, equatorialSides}
-use Rattle.touch.proofs.Sides.{end}
-use Rattle.touch.proofs.Cubes.{room}
+use Rattle.adjacency.specs.declared.Side.{Side}
+use Rattle.adjacency.specs.declared.Cube.{Cube}
+use Rattle.adjacency.specs.Cube.{sideOf, leftOver, cubeOf, equatorialSides}
+use Rattle.adjacency.proofs.Sides.{end}
+use Rattle.adjacency.proofs.Cubes.{room}
 
 -- the vertex of a cube that lies u, v, w beyond its bases
 abbrev pub vertex : Cube → ℕ → ℕ → ℕ → Point

@@ -10,9 +10,9 @@ use Rattle.cell.specs.declared.Kind.the-variants.{Up, Down}
 use Rattle.cell.specs.Cell.{Triangle, up, down, span, Place, Occurs, triangleOf, row, col}
 use Rattle.corner.specs.Corner.{equatorial}
 use Rattle.corner.proofs.Octants.{octant-cases}
-use Rattle.touch.specs.declared.cube.Side.{Side}
-use Rattle.touch.specs.declared.cube.Cube.{Cube}
-use Rattle.touch.specs.inside.Cube.{sideOf, sum, leftOver, cubeOf, northernOctant, column, placeIn, placeOfCube, equatorialSides}
+use Rattle.adjacency.specs.declared.Side.{Side}
+use Rattle.adjacency.specs.declared.Cube.{Cube}
+use Rattle.adjacency.specs.Cube.{sideOf, sum, leftOver, cubeOf, northernOctant, column, placeIn, placeOfCube, equatorialSides}
 
 -- N less the bases: 1 for up, 2 for down
 unfoldable pub room : Triangle → ℕ

@@ -10,13 +10,13 @@ use Rattle.refusal.proofs.Tests.{parts}
 use Rattle.cell.specs.Cell.{place, number, Occurs, cells}
 use Rattle.cell.proofs.Laws.{place-occurs, number-below, place-number, number-place}
 use Rattle.corner.specs.Corner.{touches}
-use Rattle.touch.specs.declared.cube.Cube.{Cube}
-use Rattle.touch.specs.Touch.{touching}
-use Rattle.touch.specs.inside.Cube.{sum, cubeOf, placeOfCube, movedCube, touchingWay, cellAlong}
-use Rattle.touch.proofs.Cubes.{room-small, cube-occurs, cube-place}
-use Rattle.touch.proofs.Ways.{Lands, way-lands, lands-way, ways-told, room-is}
-use Rattle.touch.proofs.Counts.{passes, all-ways, passes-below, passes-same}
-use Rattle.touch.proofs.Collect.{isFound, collect, collect-laws, collect-rising}
+use Rattle.adjacency.specs.declared.Cube.{Cube}
+use Rattle.adjacency.specs.Touch.{touching}
+use Rattle.adjacency.specs.Cube.{sum, cubeOf, placeOfCube, movedCube, touchingWay, cellAlong}
+use Rattle.adjacency.proofs.Cubes.{room-small, cube-occurs, cube-place}
+use Rattle.adjacency.proofs.Ways.{Lands, way-lands, lands-way, ways-told, room-is}
+use Rattle.adjacency.proofs.Counts.{passes, all-ways, passes-below, passes-same}
+use Rattle.adjacency.proofs.Collect.{isFound, collect, collect-laws, collect-rising}
 
 -- ---- the cell along a way
 

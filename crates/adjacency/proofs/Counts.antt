@@ -4,8 +4,8 @@ use mathlib.Core.Path.{_≡_, refl, sym, ap}
 use mathlib.Core.Bool.{Bool, cond}
 use native.Mathlib.Nat.{le-trans, le-of-eq, le-add-right, add-zero, add-suc}
 use native.Mathlib.Omega.{arith}
-use Rattle.touch.specs.declared.cube.Cube.{Cube}
-use Rattle.touch.specs.inside.Cube.{sideOf, least, most, taken, sumsFit, touchingWay}
+use Rattle.adjacency.specs.declared.Cube.{Cube}
+use Rattle.adjacency.specs.Cube.{sideOf, least, most, taken, sumsFit, touchingWay}
 
 -- how many numbers below n pass a test
 unfoldable pub passes : (ℕ → Bool) → ℕ → ℕ

@@ -16,15 +16,15 @@ use Rattle.cell.specs.Cell.{place, number, cells}
 use Rattle.cell.proofs.Laws.{place-occurs, number-below, place-number, number-place}
 use Rattle.corner.specs.Corner.{norm, minus, corners, among}
 use Rattle.corner.proofs.Common.{three, among-index, index-among, samePoint-refl, same-coordinates}
-use Rattle.touch.specs.declared.cube.Side.{Side}
-use Rattle.touch.specs.declared.cube.Cube.{Cube}
-use Rattle.touch.specs.Touch.{Tip, cellsAt}
-use Rattle.touch.specs.inside.Cube.{sideOf, sum, cubeOf, placeOfCube}
-use Rattle.touch.proofs.Sides.{end, size-end}
-use Rattle.touch.proofs.Cubes.{room, room-small, sum-cube, place-cube, Spanned, cube-occurs, cube-place}
-use Rattle.touch.proofs.Vertices.{vertex, IsVertex, corner-vertex, vertex-corner}
-use Rattle.touch.proofs.Counts.{passes, passes-same}
-use Rattle.touch.proofs.Collect.{isFound, rising-count}
+use Rattle.adjacency.specs.declared.Side.{Side}
+use Rattle.adjacency.specs.declared.Cube.{Cube}
+use Rattle.adjacency.specs.Touch.{Tip, cellsAt}
+use Rattle.adjacency.specs.Cube.{sideOf, sum, cubeOf, placeOfCube}
+use Rattle.adjacency.proofs.Sides.{end, size-end}
+use Rattle.adjacency.proofs.Cubes.{room, room-small, sum-cube, place-cube, Spanned, cube-occurs, cube-place}
+use Rattle.adjacency.proofs.Vertices.{vertex, IsVertex, corner-vertex, vertex-corner}
+use Rattle.adjacency.proofs.Counts.{passes, passes-same}
+use Rattle.adjacency.proofs.Collect.{isFound, rising-count}
 
 -- ---- one axis: the two sides that end at a number
 

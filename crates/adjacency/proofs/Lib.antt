@@ -1,0 +1,12 @@
+pub mod Sides
+pub mod Cubes
+pub mod Vertices
+pub mod Ways
+pub mod Sorted
+pub mod Counts
+pub mod Collect
+pub mod Listed
+pub mod CellsAt
+pub mod Laws
+pub mod Direct
+pub mod Indirect
