@@ -33,7 +33,7 @@ pub(crate) fn read_header(bytes: &[u8]) -> HeaderAnswer
             match varint::read_number(bytes, after_level) {
                 ReadAnswer::Refused(n) => HeaderAnswer::Refused(n),
                 ReadAnswer::Number(start, after_start) => {
-                    if 8 <= start >> (2 * level) {
+                    if !cell::is_cell(level, start) {
                         return HeaderAnswer::Refused(refusal::CELL);
                     }
                     match varint::read_number(bytes, after_start) {

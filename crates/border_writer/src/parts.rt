@@ -22,7 +22,7 @@ pub(crate) fn all_below(level: u32, cells: &[CellNumber]) -> bool
 {
     let mut i = 0;
     while i < cells.len() {
-        if 8 <= cells[i] >> (2 * level) {
+        if !cell::is_cell(level, cells[i]) {
             return false;
         }
         i += 1;

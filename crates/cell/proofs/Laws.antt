@@ -2,17 +2,20 @@
 -- Assumes nothing.
 use Prim.Native.Nat.{ℕ, zero, suc, _+_, _*_, _/_, _%_, _^_, _≤_, _<_}
 use mathlib.Core.Path.{_≡_, refl, sym, ap, ap₂, subst, _∙_}
+use mathlib.Core.Bool.{Bool, true, false, not}
 use mathlib.Core.Logic.{_↔_}
-use native.Mathlib.Nat.{one-mul, mul-left-comm, pow-suc, pow-zero, one-le-pow}
+use native.Mathlib.Nat.{one-mul, mul-left-comm, pow-suc, pow-zero, one-le-pow, pow-le-pow-right}
 use native.Mathlib.Nat.{mod-one, mod-eq-of-lt, div-one, div-add-mod', div-lt-iff-lt-mul, le-div-iff-mul-le, div-div-eq-div-mul}
 use native.Mathlib.Omega.{arith}
+use borrow.Author.Tests.{lt-ltb, le-ltb, ltb-true, ltb-false, not-true, not-false}
+use lib.Dec.{ltb}
 use lib.ListN.{getD}
 use lib.Pow.{pow-lt}
 use lib.Arith.{digits-lt, digits-div, mod-mul}
 use Rattle.cell.specs.declared.Kind.{Kind}
 use Rattle.cell.specs.declared.Kind.the-variants.{Up, Down}
 use Rattle.cell.specs.Cell.{Triangle, triangleOf, up, down, row, col, children, child, triangle, span, Place, place, Occurs}
-use Rattle.cell.specs.Cell.{parents, parities, asChild, digits, number, cells}
+use Rattle.cell.specs.Cell.{parents, parities, asChild, digits, number, cells, maxLevel}
 
 -- ---- one step of the table
 
@@ -196,6 +199,25 @@ past-level k n h = le-div-iff-mul-le (one-le-pow k 4 (omega arith)) .0 (rw shift
 
 pub below-level : (k n : ℕ) → n / 2 ^ (2 * k) < 8 → n < cells k
 below-level k n h = div-lt-iff-lt-mul (one-le-pow k 4 (omega arith)) .0 (rw shift-four at h)
+
+-- the two as one test
+pub level-test : (k n : ℕ) → ltb (n / 2 ^ (2 * k)) 8 ≡ ltb n (cells k)
+level-test k n = go (ltb (n / 2 ^ (2 * k)) 8) refl
+  where
+    go : (b : Bool) → ltb (n / 2 ^ (2 * k)) 8 ≡ b → b ≡ ltb n (cells k)
+    go true e = sym (lt-ltb n (cells k) (below-level k n (ltb-true (n / 2 ^ (2 * k)) 8 e)))
+    go false e = sym (le-ltb n (cells k) (past-level k n (ltb-false (n / 2 ^ (2 * k)) 8 e)))
+
+-- where the code asks for it and refuses, or goes on
+pub no-cell : (b : Bool) (k n : ℕ) → b ≡ ltb n (cells k) → not b ≡ true → cells k ≤ n
+no-cell b k n e f = ltb-false n (cells k) (sym e ∙ not-true b f)
+
+pub a-cell : (b : Bool) (k n : ℕ) → b ≡ ltb n (cells k) → not b ≡ false → n < cells k
+a-cell b k n e t = ltb-true n (cells k) (sym e ∙ not-false b t)
+
+-- above level 14 a number of 32 bits is below
+pub below-higher-level : (k n : ℕ) → maxLevel < k → n < 2 ^ 32 → n < cells k
+below-higher-level k n h l = omega (arith, pow-le-pow-right {n = 4} (omega arith) {i = 15} {j = k} h)
 
 -- N as the code shifts it, in w bits
 pub shifted : (w k : ℕ) → k < w → 1 * 2 ^ k % 2 ^ w ≡ 2 ^ k

@@ -3,7 +3,8 @@ mod bits;
 
 ghost use mathlib.Core.Path.{_≡_};
 ghost use Prim.Native.Nat.{_≤_};
-ghost use Rattle.cell.specs.Cell.{Triangle, place, number, Occurs, maxLevel, span};
+ghost use lib.Dec.{ltb};
+ghost use Rattle.cell.specs.Cell.{Triangle, place, number, Occurs, cells, maxLevel, span};
 ghost use Rattle.cell.specs.Cell.{placeOf, saidPlace, saidNumber, placeCall, numberCall};
 
 // A cell's number at its level: octant × 4^level plus the level's digits in base 4, first digit highest.
@@ -85,6 +86,16 @@ fn descend(level: u32, cell: CellNumber) -> Place
     }
 }
 
+// Whether a number is that of a cell of the level. Above level 14 every number of 32 bits is below 8 × 4^level.
+pub fn is_cell(level: u32, cell: CellNumber) -> bool
+    ensures { λ r. ⌜ r ≡ ltb cell (cells level) ⌝ }
+{
+    if MAX_LEVEL < level {
+        return true;
+    }
+    cell >> (2 * level) < 8
+}
+
 // The place of a cell's number.
 pub fn place_of(level: u32, cell: CellNumber) -> PlaceAnswer
     ensures { λ r. ⌜ saidPlace r ≡ placeCall level cell ⌝ }
@@ -92,7 +103,7 @@ pub fn place_of(level: u32, cell: CellNumber) -> PlaceAnswer
     if MAX_LEVEL < level {
         return PlaceAnswer::Refused(refusal::LEVEL);
     }
-    if 8 <= cell >> (2 * level) {
+    if !is_cell(level, cell) {
         return PlaceAnswer::Refused(refusal::CELL);
     }
     PlaceAnswer::At(descend(level, cell))

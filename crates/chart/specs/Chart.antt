@@ -9,12 +9,21 @@ use lib.IntN.{pos}
 use lib.ListN.{getD}
 use lib.Ieee as Ieee
 use lib.Ieee.{Float, nan, fin}
-use Rattle.refusal.specs.Answer.{Answer, given, refused, Test, inOrder}
+use Rattle.refusal.specs.Answer.{Answer, given, refused, Test, inOrder, done}
 use Rattle.refusal.specs.Tests.{badLevel, badLength}
 use Rattle.cell.specs.Cell.{cells, badCell}
 use Rattle.mask.specs.Mask.{maxMaskLevel}
 use Rattle.chart.specs.declared.ReadingAnswer.{ReadingAnswer}
 use Rattle.chart.specs.declared.ReadingAnswer.the-variants as reading-answer
+
+-- ---- whether two slices are a chart of a level
+
+-- refused 1, 5
+abbrev pub chartTests : ℕ → List Float → List ℕ → List Test
+chartTests k temps ages = badLevel maxMaskLevel k ∷ badLength (cells k) temps ∷ badLength (cells k) ages ∷ []
+
+abbrev pub chartCall : ℕ → List Float → List ℕ → Answer (Unit {0})
+chartCall k temps ages = inOrder (chartTests k temps ages) done
 
 -- ---- the range
 

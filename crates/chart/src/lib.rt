@@ -1,8 +1,10 @@
 // Charts, the temperatures of cells with their ages: document 01, "Charts and ages".
 ghost use mathlib.Core.Path.{_≡_};
 ghost use Rattle.refusal.specs.Answer.{given};
-ghost use Rattle.chart.specs.Chart.{inRange, readingOf, readingCall, saidReading};
+ghost use Rattle.refusal.specs.Outcome.{saidOutcome};
+ghost use Rattle.chart.specs.Chart.{chartCall, inRange, readingOf, readingCall, saidReading};
 use cell::CellNumber;
+use refusal::Outcome;
 
 // The lowest and the highest temperature in range.
 const LOWEST: f32 = -5.0;
@@ -21,7 +23,24 @@ pub enum ReadingAnswer {
     Refused(u8),
 }
 
-// Whether a temperature is in range. A value that is no number fails both comparisons.
+// Whether two slices are a chart of a level.
+pub fn is_chart(level: u32, temperatures: &[f32], ages: &[u8]) -> Outcome
+    ensures { λ r. ⌜ saidOutcome r ≡ chartCall level (now (temperatures .entry)) (now (ages .entry)) ⌝ }
+{
+    if mask::MAX_MASK_LEVEL < level {
+        return Outcome::Refused(refusal::LEVEL);
+    }
+    let cells = 8 << (2 * level);
+    if temperatures.len() != cells {
+        return Outcome::Refused(refusal::LENGTH);
+    }
+    if ages.len() != cells {
+        return Outcome::Refused(refusal::LENGTH);
+    }
+    Outcome::Done
+}
+
+// Whether a temperature is in range. NaN fails both comparisons.
 pub fn in_range(temperature: f32) -> bool
     ensures { λ r. ⌜ r ≡ inRange temperature ⌝ }
 {
@@ -51,15 +70,11 @@ pub fn reading_of(level: u32, temperatures: &[f32], ages: &[u8], cell: CellNumbe
     if mask::MAX_MASK_LEVEL < level {
         return ReadingAnswer::Refused(refusal::LEVEL);
     }
-    if 8 <= cell >> (2 * level) {
+    if !cell::is_cell(level, cell) {
         return ReadingAnswer::Refused(refusal::CELL);
     }
-    let cells = 8 << (2 * level);
-    if temperatures.len() != cells {
-        return ReadingAnswer::Refused(refusal::LENGTH);
+    match is_chart(level, temperatures, ages) {
+        Outcome::Refused(n) => ReadingAnswer::Refused(n),
+        Outcome::Done => reading(temperatures[cell as usize], ages[cell as usize]),
     }
-    if ages.len() != cells {
-        return ReadingAnswer::Refused(refusal::LENGTH);
-    }
-    reading(temperatures[cell as usize], ages[cell as usize])
 }

@@ -19,10 +19,10 @@ use Rattle.day.specs.Day.{Summary, Slices, dayTests, dayCall, summaryAft
 -- the slices and the day limit, as a day takes them
 pub record Ready (k d : ℕ) (new : List Float) (clouds : List ℕ) (temps : List Float) (ages : List ℕ) : Type 0 where
   pub level : k ≤ maxMaskLevel
-  pub read : length new ≡ cells k
-  pub covers : length clouds ≡ 4 ^ k
   pub warmth : length temps ≡ cells k
   pub aged : length ages ≡ cells k
+  pub read : length new ≡ cells k
+  pub covers : length clouds ≡ 4 ^ k
   pub days : d ≤ maxDays
 
 -- so they are where no test refuses
@@ -32,10 +32,10 @@ ready k d new clouds temps ages e =
     let t = passed (dayTests k d new clouds temps ages) done done e .0 in
     record {
       level = ltb-false maxMaskLevel k (t .0);
-      read = length-is (cells k) new (t .1 .0);
-      covers = length-is (4 ^ k) clouds (t .1 .1 .0);
-      warmth = length-is (cells k) temps (t .1 .1 .1 .0);
-      aged = length-is (cells k) ages (t .1 .1 .1 .1 .0);
+      warmth = length-is (cells k) temps (t .1 .0);
+      aged = length-is (cells k) ages (t .1 .1 .0);
+      read = length-is (cells k) new (t .1 .1 .1 .0);
+      covers = length-is (4 ^ k) clouds (t .1 .1 .1 .1 .0);
       days = ltb-false maxDays d (t .1 .1 .1 .1 .1 .0);
     }
 

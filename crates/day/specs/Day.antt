@@ -131,7 +131,7 @@ badDays d = 6 when ltb maxDays d
 abbrev pub dayTests : ℕ → ℕ → List Float → List ℕ → List Float → List ℕ → List Test
 dayTests k d new clouds temps ages =
     badLevel maxMaskLevel k
-    ∷ badLength (cells k) new ∷ badLength (4 ^ k) clouds ∷ badLength (cells k) temps ∷ badLength (cells k) ages
+    ∷ badLength (cells k) temps ∷ badLength (cells k) ages ∷ badLength (cells k) new ∷ badLength (4 ^ k) clouds
     ∷ badDays d ∷ []
 
 -- the summary of the chart that the day leaves

@@ -140,26 +140,21 @@ fn day_tests(
     ensures { λ r. ⌜ saidOutcome r
         ≡ inOrder (dayTests level limit (now (new .entry)) (now (clouds .entry)) (now (temperatures .entry)) (now (ages .entry))) done ⌝ }
 {
-    if level > mask::MAX_MASK_LEVEL {
-        return Outcome::Refused(refusal::LEVEL);
+    match chart::is_chart(level, temperatures, ages) {
+        Outcome::Refused(n) => Outcome::Refused(n),
+        Outcome::Done => {
+            if new.len() != temperatures.len() {
+                return Outcome::Refused(refusal::LENGTH);
+            }
+            if clouds.len() != temperatures.len() / 8 {
+                return Outcome::Refused(refusal::LENGTH);
+            }
+            if (MAX_DAYS as u32) < limit {
+                return Outcome::Refused(refusal::COUNT);
+            }
+            Outcome::Done
+        }
     }
-    let size = 8 << (2 * level);
-    if new.len() != size {
-        return Outcome::Refused(refusal::LENGTH);
-    }
-    if clouds.len() != size / 8 {
-        return Outcome::Refused(refusal::LENGTH);
-    }
-    if temperatures.len() != size {
-        return Outcome::Refused(refusal::LENGTH);
-    }
-    if ages.len() != size {
-        return Outcome::Refused(refusal::LENGTH);
-    }
-    if (MAX_DAYS as u32) < limit {
-        return Outcome::Refused(refusal::COUNT);
-    }
-    Outcome::Done
 }
 
 // One day: rewrites the chart by new temperatures and a cloud mask, and answers a summary of the chart that it leaves.

@@ -117,6 +117,7 @@ demand-1 = record {
   shrink = λ k m a out work. lent-by-tests _ _ _ _ refl;
   fill = λ k a o out. lent-by-tests _ _ _ _ refl;
   reading-of = λ k temps ages c. by-tests _ _ refl;
+  is-chart = λ k temps ages. by-tests _ _ refl;
   day = λ k d new clouds temps ages. lent-by-tests _ _ _ _ refl;
   read-number = read-number;
   write-number = λ n at out. lent-by-tests _ _ _ _ refl;

@@ -23,7 +23,7 @@ use Rattle.adjacency.specs.Touch.{touching, padded, listCall}
 use Rattle.mask.specs.Mask.{maxMaskLevel, maskCall, countCall, union, joinCall, difference, lowest, withinCall}
 use Rattle.grow.specs.Grow.{badRings, grownCells, shrunkCells, growCall, shrinkCall}
 use Rattle.fill.specs.Fill.{unreached, badOutside, fillCall}
-use Rattle.chart.specs.Chart.{readingAt, readingCall}
+use Rattle.chart.specs.Chart.{chartCall, readingAt, readingCall}
 use Rattle.day.specs.Day.{temperaturesAfter, agesAfter, summaryAfter, badDays, dayCall}
 
 -- a test with the number n applies
@@ -115,11 +115,14 @@ pub record Demand1 : Type 0 where
   pub reading-of : (k : ℕ) (temps : List Float) (ages : List ℕ) (c : ℕ) →
       ByTests (badLevel maxMaskLevel k ∷ badCell k c ∷ badLength (cells k) temps ∷ badLength (cells k) ages ∷ [])
       (readingCall k temps ages c) (readingAt temps ages c)
+  -- whether two slices are a chart: 1, 5
+  pub is-chart : (k : ℕ) (temps : List Float) (ages : List ℕ) →
+      ByTests (badLevel maxMaskLevel k ∷ badLength (cells k) temps ∷ badLength (cells k) ages ∷ []) (chartCall k temps ages) done
   -- one day: 1, 5, 6
   pub day : (k d : ℕ) (new : List Float) (clouds : List ℕ) (temps : List Float) (ages : List ℕ) →
       LentByTests
       (badLevel maxMaskLevel k
-      ∷ badLength (cells k) new ∷ badLength (4 ^ k) clouds ∷ badLength (cells k) temps ∷ badLength (cells k) ages
+      ∷ badLength (cells k) temps ∷ badLength (cells k) ages ∷ badLength (cells k) new ∷ badLength (4 ^ k) clouds
       ∷ badDays d ∷ [])
       (dayCall k d new clouds temps ages) (summaryAfter (cells k) d new clouds temps ages)
       (record { temperatures = temps; ages = ages })

@@ -3,31 +3,29 @@ use native.Mathlib.Omega.{arith}
 use borrow.Author.Needs.{needs}
 use borrow.Author.Tests.{lt-ltb, le-ltb, le-leb, lt-leb}
 use Rattle.cell.specs.Cell.{maxLevel}
-use Rattle.cell.proofs.Laws.{past-level, below-level}
+use Rattle.cell.proofs.Laws.{no-cell, a-cell}
 use Rattle.cell.proofs.place_of.Statement.{statement}
 use Rattle.cell.proofs.place_of.Tie as tie
 
 returns : tie.Need-returns
 returns c = simp (lt-ltb maxLevel (c .before .args .level) (omega arith))
 
-mul-if2 : tie.Need-mul-if2
-mul-if2 c = search needs
-
-shr-if2 : tie.Need-shr-if2
-shr-if2 c = search needs
+is-cell-requires : tie.Need-is-cell-requires
+is-cell-requires c κs = search needs
 
 returns-2 : tie.Need-returns-2
 returns-2 c =
-    let a = c .before .before .args in
-    simp (le-ltb _ _ (c .before .if1 .left), le-leb _ _ (past-level (a .level) (a .cell) (omega arith)))
+    let a = c .before .before .before .args in
+    simp (le-ltb maxLevel (a .level) (omega arith), le-leb _ _ (no-cell _ (a .level) (a .cell) (c .before .is-cell .ensures) (c .if2 .taken)))
 
 descend-requires : tie.Need-descend-requires
 descend-requires c κs = search needs
 
 returns-3 : tie.Need-returns-3
 returns-3 c =
-    let a = c .before .before .before .args in
-    simp (le-ltb _ _ (c .before .before .if1 .left), lt-leb _ _ (below-level (a .level) (a .cell) (c .before .if2 .left)), c .descend .ensures)
+    let a = c .before .before .before .before .args in
+    let below = a-cell _ (a .level) (a .cell) (c .before .before .is-cell .ensures) (c .before .if2 .left) in
+    simp (le-ltb maxLevel (a .level) (omega arith), lt-leb _ _ below, c .descend .ensures)
 
 pub place-of-spec : {M : Type 1} → statement M
-place-of-spec = tie.close (tie.spec returns mul-if2 shr-if2 returns-2 descend-requires returns-3)
+place-of-spec = tie.close (tie.spec returns is-cell-requires returns-2 descend-requires returns-3)

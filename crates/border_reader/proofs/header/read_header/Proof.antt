@@ -8,7 +8,7 @@ use Rattle.refusal.specs.Answer.{given}
 use Rattle.varint.specs.Varint.{readCall, saidRead}
 use Rattle.varint.proofs.Laws.{read-inside}
 use Rattle.cell.specs.Cell.{cells}
-use Rattle.cell.proofs.Laws.{past-level, below-level}
+use Rattle.cell.proofs.Laws.{no-cell, a-cell}
 use Rattle.border_reader.proofs.Reading.{level-unread, level-high, start-unread, start-high, count-unread, count-high, header-read}
 use Rattle.border_reader.proofs.header.read_header.Statement.{statement}
 use Rattle.border_reader.proofs.header.read_header.Tie as tie
@@ -30,7 +30,7 @@ abbrev at-start : tie.After-known-told4 → tie.After-known-told2
 at-start t = t .before .before .before .before .before
 
 abbrev at-count : tie.After-known-told6 → tie.After-known-told4
-at-count t = t .before .before .before .before .before
+at-count t = t .before .before .before .before .before .before
 
 level-told : (t : tie.After-known-told2) →
     let g = t .before .level .given .0 in
@@ -53,8 +53,8 @@ count-inside t =
     read-inside (at-level (at-start (at-count t)) .args .bytes .now) (at-count t .before .start .given .0 .1 .0) (g .0) (g .1 .0) (sym (count-told t))
 
 -- the start cell is one of the level
-start-below : (c : tie.Else2) → c .before .before .start .given .0 .0 < cells (at-start (c .before) .before .level .given .0 .0)
-start-below c = below-level _ _ (c .if2 .left)
+start-below : (c : tie.Else2) → c .before .before .before .start .given .0 .0 < cells (at-start (c .before .before) .before .level .given .0 .0)
+start-below c = a-cell _ _ _ (c .before .is-cell .ensures) (c .if2 .left)
 
 returns : tie.Need-returns
 returns c = (level-high _ _ _ (level-told (c .before)) (omega arith), tt)
@@ -68,14 +68,14 @@ enum-known-n-2 c = search needs
 enum-known-start : tie.Need-enum-known-start
 enum-known-start c = search needs
 
-mul-if2 : tie.Need-mul-if2
-mul-if2 c = search needs
-
-shr-if2 : tie.Need-shr-if2
-shr-if2 c = search needs
+is-cell-requires : tie.Need-is-cell-requires
+is-cell-requires c κs = search needs
 
 returns-2 : tie.Need-returns-2
-returns-2 c = let t = at-start (c .before) in (start-high _ _ _ (level-told t) (omega arith) _ _ (start-told (c .before)) (past-level _ _ (c .if2 .taken)), tt)
+returns-2 c =
+    let s = c .before .before in
+    let t = at-start s in
+    (start-high _ _ _ (level-told t) (omega arith) _ _ (start-told s) (no-cell _ _ _ (c .before .is-cell .ensures) (c .if2 .taken)), tt)
 
 read-number-requires-3 : tie.Need-read-number-requires-3
 read-number-requires-3 c κs = search needs
@@ -89,8 +89,8 @@ enum-known-count c = search needs
 returns-3 : tie.Need-returns-3
 returns-3 c =
     let e = c .before .before .before .before .before in
-    let t = at-start (e .before) in
-    (count-high _ _ _ (level-told t) (omega arith) _ _ (start-told (e .before)) (start-below e) _ _ (count-told (c .before)) (omega arith), tt)
+    let t = at-start (e .before .before) in
+    (count-high _ _ _ (level-told t) (omega arith) _ _ (start-told (e .before .before)) (start-below e) _ _ (count-told (c .before)) (omega arith), tt)
 
 returns-4 : tie.Need-returns-4
 returns-4 c = (level-unread _ _ (sym (ap saidRead (c .before .n .given .1)) ∙ c .before .before .before .read-number .ensures), tt)
@@ -103,8 +103,8 @@ returns-5 c =
 returns-6 : tie.Need-returns-6
 returns-6 c =
     let e = c .before .before .before .before in
-    let t = at-start (e .before) in (
-      count-unread _ _ _ (level-told t) (omega arith) _ _ (start-told (e .before)) _ (start-below e)
+    let t = at-start (e .before .before) in (
+      count-unread _ _ _ (level-told t) (omega arith) _ _ (start-told (e .before .before)) _ (start-below e)
           (sym (ap saidRead (c .before .n3 .given .1)) ∙ c .before .before .before .read-number3 .ensures),
       tt,
     )
@@ -112,8 +112,8 @@ returns-6 c =
 returns-7 : tie.Need-returns-7
 returns-7 c =
     let e = c .before .before .before .before .before in
-    let t = at-start (e .before) in
-    (header-read _ _ _ (level-told t) (omega arith) _ _ (start-told (e .before)) (start-below e) _ _ (count-told (c .before)) (omega arith), (omega arith, count-inside (c .before)))
+    let t = at-start (e .before .before) in
+    (header-read _ _ _ (level-told t) (omega arith) _ _ (start-told (e .before .before)) (start-below e) _ _ (count-told (c .before)) (omega arith), (omega arith, count-inside (c .before)))
 
 pub read-header-spec : {M : Type 1} → statement M
 read-header-spec =
@@ -126,8 +126,7 @@ read-header-spec =
     read-number-requires-2
     enum-known-n-2
     enum-known-start
-    mul-if2
-    shr-if2
+    is-cell-requires
     returns-2
     read-number-requires-3
     enum-known-n-3

@@ -16,7 +16,7 @@ use Rattle.border_reader.proofs.Reading.{Walked, walk-begins, walk-goes
 use Rattle.border_reader.proofs.walking.walk.Statement.{statement}
 use Rattle.border_reader.proofs.walking.walk.Tie as tie
 use Rattle.border_reader.proofs.codes.code_at.Reads as code-at-reads
-use Rattle.code.proofs.step_along.Reads as step-along-reads
+use Rattle.step.proofs.step_along.Reads as step-along-reads
 
 abbrev Inv-loop : tie.InvT-loop
 Inv-loop level start codes count met₀ cell₀ i₀ met cell i =

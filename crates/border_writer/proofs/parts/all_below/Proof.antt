@@ -6,7 +6,7 @@ use native.Mathlib.Omega.{arith}
 use borrow.Author.Needs.{needs}
 use lib.ListN.{length, drop, drop-of-length-le}
 use Rattle.cell.specs.Cell.{cells as cellsOfLevel}
-use Rattle.cell.proofs.Laws.{past-level, below-level}
+use Rattle.cell.proofs.Laws.{no-cell, a-cell}
 use Rattle.border.specs.Border.{anyFrom}
 use Rattle.border_writer.proofs.Writing.{one-above, one-below}
 use Rattle.border_writer.proofs.parts.all_below.Statement.{statement}
@@ -21,23 +21,21 @@ abbrev μ-loop : tie.MeasureT-loop
 loop-holds : tie.Need-loop-holds Inv-loop μ-loop
 loop-holds c = (omega arith, refl)
 
-mul-if1 : tie.Need-mul-if1 Inv-loop μ-loop
-mul-if1 c = search needs
+mul-is-cell : tie.Need-mul-is-cell Inv-loop μ-loop
+mul-is-cell c = search needs
 
-shared-slice-read-if1 : tie.Need-shared-slice-read-if1 Inv-loop μ-loop
-shared-slice-read-if1 c = search needs
+shared-slice-read-is-cell : tie.Need-shared-slice-read-is-cell Inv-loop μ-loop
+shared-slice-read-is-cell c = search needs
 
-mul-if1-2 : tie.Need-mul-if1-2 Inv-loop μ-loop
-mul-if1-2 c = search needs
-
-shr-if1 : tie.Need-shr-if1 Inv-loop μ-loop
-shr-if1 c = search needs
+is-cell-requires : tie.Need-is-cell-requires Inv-loop μ-loop
+is-cell-requires c κs = search needs
 
 returns : tie.Need-returns Inv-loop μ-loop
 returns c =
-    let l = c .before .before .before .loop in
-    let a = c .before .before .before .before .args in
-    sym (ap not (l .inv .1 ∙ one-above (cellsOfLevel (a .level)) (a .cells .now) (l .i) (omega arith) (past-level (a .level) _ (c .if1 .taken))))
+    let l = c .before .before .before .before .loop in
+    let a = c .before .before .before .before .before .before .args in
+    let past = no-cell _ (a .level) _ (c .before .is-cell .ensures) (c .if1 .taken) in
+    sym (ap not (l .inv .1 ∙ one-above (cellsOfLevel (a .level)) (a .cells .now) (l .i) (omega arith) past))
 
 add-i : tie.Need-add-i Inv-loop μ-loop
 add-i c = search needs
@@ -47,15 +45,16 @@ loop-less c = omega arith
 
 loop-again : tie.Need-loop-again Inv-loop μ-loop
 loop-again c =
-    let l = c .before .before .before .loop in
-    let a = c .before .before .before .before .args in
-    (omega arith, l .inv .1 ∙ one-below (cellsOfLevel (a .level)) (a .cells .now) (l .i) (omega arith) (below-level (a .level) _ (c .if1 .left)))
+    let l = c .before .before .before .before .loop in
+    let a = c .before .before .before .before .before .before .args in
+    let below = a-cell _ (a .level) _ (c .before .is-cell .ensures) (c .if1 .left) in
+    (omega arith, l .inv .1 ∙ one-below (cellsOfLevel (a .level)) (a .cells .now) (l .i) (omega arith) below)
 
 returns-2 : tie.Need-returns-2 Inv-loop μ-loop
 unfolding anyFrom
 returns-2 c =
     let l = c .before .loop in
-    let a = c .before .before .args in
+    let a = c .before .before .before .args in
     sym (ap not (l .inv .1 ∙ ap (anyFrom (cellsOfLevel (a .level))) (drop-of-length-le (a .cells .now) {i = l .i} (omega arith))))
 
 pub all-below-spec : {M : Type 1} → statement M
@@ -65,10 +64,9 @@ all-below-spec =
     Inv-loop
     μ-loop
     loop-holds
-    mul-if1
-    shared-slice-read-if1
-    mul-if1-2
-    shr-if1
+    mul-is-cell
+    shared-slice-read-is-cell
+    is-cell-requires
     returns
     add-i
     loop-less

@@ -12,7 +12,7 @@ use Rattle.border.specs.Stored.{found}
 use Rattle.border_writer.proofs.Writing.{Joined, none-joined, one-joined, not-joined, all-joined}
 use Rattle.border_writer.proofs.parts.find_codes.Statement.{statement}
 use Rattle.border_writer.proofs.parts.find_codes.Tie as tie
-use Rattle.code.proofs.code_between.Reads as code-between-reads
+use Rattle.step.proofs.code_between.Reads as code-between-reads
 
 abbrev Inv-loop : tie.InvT-loop
 Inv-loop level cells codes₀ i₀ codes i = (i + 1 ≤ length cells) × (length codes ≡ length codes₀) × Joined level cells codes i
