@@ -27,7 +27,7 @@ pub enum ReadingAnswer {
 pub fn is_chart(level: u32, temperatures: &[f32], ages: &[u8]) -> Outcome
     ensures { λ r. ⌜ saidOutcome r ≡ chartCall level (now (temperatures .entry)) (now (ages .entry)) ⌝ }
 {
-    if mask::MAX_MASK_LEVEL < level {
+    if level > mask::MAX_MASK_LEVEL {
         return Outcome::Refused(refusal::LEVEL);
     }
     let cells = 8 << (2 * level);

@@ -12,9 +12,22 @@ use lib.Ieee.{Float, nan}
 use Rattle.refusal.proofs.Tests.{clash, parts, both}
 use Rattle.bitset.specs.Bits.{marked, size}
 use Rattle.chart.specs.Chart.{inRange, fresh, carried, readingOf, temperatureAt, ageAt, gap, maxDays, Gap, readingAt}
-use Rattle.day.specs.Day.{nought, dayOf, dayAt, temperaturesAfter, agesAfter, readsAfter, isFresh, summaryAfter, NothingNew, CarriedOn, NotCarried}
+use Rattle.day.specs.Day.{nought, dayOf, dayAt, temperaturesAfter, agesAfter, readsAfter, isFresh, summaryAfter}
 use Rattle.chart.proofs.Laws.{gap≢fresh, gap≢carried, reads-fresh, fresh-reads, reads-carried, carried-reads, gap-exactly}
 use Rattle.day.proofs.Days.{not-first, not-second, leaves, getD-listOf, count-fresh}
+
+-- the day has nothing new for cell c, since the mask covers it or its new temperature is not in range
+abbrev pub NothingNew : List Float → List ℕ → ℕ → Type 0
+NothingNew new clouds c = (marked clouds c ≡ true) ⊎ (inRange (temperatureAt new c) ≡ false)
+
+-- and cell c is carried to m days with t: its old temperature t is in range, and m is one more than its age and at most the limit
+abbrev pub CarriedOn : ℕ → List Float → List ℕ → ℕ → Float → ℕ → Type 0
+CarriedOn d temps ages c t m =
+    (inRange (temperatureAt temps c) ≡ true) × (temperatureAt temps c ≡ t) × (ageAt ages c + 1 ≡ m) × (m ≤ d)
+
+-- or it can't be carried: it would be past the limit, or its old temperature is not in range
+abbrev pub NotCarried : ℕ → List Float → List ℕ → ℕ → Type 0
+NotCarried d temps ages c = (d < ageAt ages c + 1) ⊎ (inRange (temperatureAt temps c) ≡ false)
 
 reads-left : (n d : ℕ) (new : List Float) (clouds : List ℕ) (temps : List Float) (ages : List ℕ) (c : ℕ) → c < n →
     readsAfter n d new clouds temps ages c ≡ readingOf (dayAt d new clouds temps ages c .0) (dayAt d new clouds temps ages c .1)

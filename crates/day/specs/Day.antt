@@ -1,9 +1,8 @@
 -- One day of a chart (document 01, "Charts and ages"): it reads new temperatures and a cloud mask, rewrites the chart's two slices, and answers a
 -- summary of the chart that it leaves.
-use Prim.Native.Nat.{ℕ, zero, suc, _+_, _^_, _≤_, _<_}
+use Prim.Native.Nat.{ℕ, zero, suc, _+_, _^_, _<_}
 use mathlib.Core.Bool.{Bool, true, false, _&&_, not, cond}
 use mathlib.Core.List.{List, [], _∷_, _++_}
-use mathlib.Core.Logic.{_⊎_}
 use mathlib.Core.Path.{_≡_}
 use lib.Dec.{leb, ltb, eqb}
 use lib.IntN.{pos}
@@ -45,19 +44,6 @@ temperaturesAfter n d new clouds temps ages = listOf n (λ c. dayAt d new clouds
 
 unfoldable pub agesAfter : ℕ → ℕ → List Float → List ℕ → List Float → List ℕ → List ℕ
 agesAfter n d new clouds temps ages = listOf n (λ c. dayAt d new clouds temps ages c .1)
-
--- said in theorems: the day has nothing new for cell c, since the mask covers it or its new temperature is not in range
-abbrev pub NothingNew : List Float → List ℕ → ℕ → Type 0
-NothingNew new clouds c = (marked clouds c ≡ true) ⊎ (inRange (temperatureAt new c) ≡ false)
-
--- and cell c is carried to m days with t: its old temperature t is in range, and m is one more than its age and at most the limit
-abbrev pub CarriedOn : ℕ → List Float → List ℕ → ℕ → Float → ℕ → Type 0
-CarriedOn d temps ages c t m =
-    (inRange (temperatureAt temps c) ≡ true) × (temperatureAt temps c ≡ t) × (ageAt ages c + 1 ≡ m) × (m ≤ d)
-
--- or it can't be carried: it would be past the limit, or its old temperature is not in range
-abbrev pub NotCarried : ℕ → List Float → List ℕ → ℕ → Type 0
-NotCarried d temps ages c = (d < ageAt ages c + 1) ⊎ (inRange (temperatureAt temps c) ≡ false)
 
 -- what cell c reads in the chart of n cells that the day leaves
 abbrev pub readsAfter : ℕ → ℕ → List Float → List ℕ → List Float → List ℕ → ℕ → Reading

@@ -17,10 +17,10 @@ use Rattle.cell.specs.Cell.{cells}
 use Rattle.mask.specs.Mask.{maxMaskLevel}
 use Rattle.chart.specs.Chart.{inRange, Reading, fresh, carried, gap, maxDays, temperatureAt, ageAt, Fresh, Carried, Gap, readingTests, readingAt, readingCall}
 use Rattle.chart.proofs.Laws.{fresh-exactly, carried-exactly, gap-exactly}
-use Rattle.day.specs.Day.{nought, NothingNew, CarriedOn, NotCarried, temperaturesAfter, agesAfter, readsAfter, Summary, Foremost, Coldest, Warmest, dayTests, summaryAfter, dayCall}
+use Rattle.day.specs.Day.{nought, temperaturesAfter, agesAfter, readsAfter, Summary, Foremost, Coldest, Warmest, dayTests, summaryAfter, dayCall}
 use Rattle.demands.specs.Demand2.{IsChart, answersFresh}
 use Rattle.day.proofs.Days.{length-listOf}
-use Rattle.day.proofs.DayLaws.{fresh-after, carried-after, gap-exactly-after, count-after}
+use Rattle.day.proofs.DayLaws.{NothingNew, CarriedOn, NotCarried, fresh-after, carried-after, gap-exactly-after, count-after}
 use Rattle.day.proofs.Bounds.{coldest-after, warmest-after, none-after}
 
 -- ---- readings
