@@ -30,7 +30,7 @@
 
    Not covered by the proofs:
    - The bits of a NaN. The proofs know a single NaN. That a refused call leaves the bits of every
-     NaN as they were is tested (second/compare compares bits), not proved. Which NaN
+     NaN as they were is tested (model/compare compares bits), not proved. Which NaN
      ticklocust_reading writes for a gap is not specified.
    - Other floating-point modes. If flush-to-zero or denormals-are-zero is set, as some programs
      built with -ffast-math do, ticklocust_day can write 0.0 where the coldest or the warmest

@@ -77,7 +77,7 @@ impl Tally {
         for (name, value) in &call.arguments {
             println!("  {name} = {value}");
         }
-        println!("  second program: {}", said(model.said));
+        println!("  model: {}", said(model.said));
         println!("  library:        {}", said(library.said));
         if model.slices.len() != library.slices.len() {
             println!("  slices: {} and {}", model.slices.len(), library.slices.len());
@@ -86,7 +86,7 @@ impl Tally {
             if let Some(place) = a.first_difference(b) {
                 let lengths = (a.len(), b.len());
                 println!("  slice {i} differs first at place {place} (lengths {lengths:?})");
-                println!("    second program: {}", a.shown(place));
+                println!("    model: {}", a.shown(place));
                 println!("    library:        {}", b.shown(place));
             }
         }

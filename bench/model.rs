@@ -1,7 +1,7 @@
-//! Times the second program's model on the same inputs. It is written to be plain, not fast. Its
+//! Times the model on the same inputs. It is written to be plain, not fast. Its
 //! tables of a mask level's cells are made before the timing. Of the single calls only the first
 //! piece is made.
-//!   second FOLDER of the inputs
+//!   model FOLDER of the inputs
 
 use std::hint::black_box;
 
@@ -163,7 +163,7 @@ fn borders(inputs: &Inputs) {
 }
 
 fn main() {
-    let inputs = Inputs(std::env::args().nth(1).expect("second FOLDER"));
+    let inputs = Inputs(std::env::args().nth(1).expect("model FOLDER"));
     calls(&inputs);
     for level in MASK_LEVELS {
         masks(&inputs, level);

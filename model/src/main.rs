@@ -1,6 +1,6 @@
 //! Compares the proved library, through its C interface, with the model of document 01.
 //!
-//!     second [long] [seed N] [only WORDS]
+//!     compare [long] [seed N] [only WORDS]
 //!
 //! One round with the given or the usual seed; with `long`, rounds with new seeds until stopped;
 //! with `only`, the tasks whose names have these words. Ends with status 1 at the first difference.
@@ -78,7 +78,7 @@ fn look_for_programs(folder: &str) {
 }
 
 fn usage() -> ! {
-    eprintln!("usage: second [long] [seed N] [only WORDS]");
+    eprintln!("usage: compare [long] [seed N] [only WORDS]");
     std::process::exit(2);
 }
 
