@@ -1,0 +1,68 @@
+// Stored borders.
+use crate::lists;
+use crate::out;
+use crate::out::Style;
+use border_reader::BorderAnswer;
+use border_writer::LengthAnswer;
+
+// The cells of the longest border, and one more.
+const CELLS: usize = 4098;
+
+// The bytes of the longest border, and one more.
+const BYTES: usize = 1545;
+
+fn put_border(out: &mut [u8], style: Style, level: u32, cells: &[u32]) -> usize {
+    let first = out::text(out, 0, b"level ");
+    let at = out::number(out, first, level);
+    let next = out::text(out, at, b":");
+    out::cells(
+        out,
+        next,
+        Style {
+            level,
+            addresses: style.addresses,
+        },
+        cells,
+    )
+}
+
+fn read_in(out: &mut [u8], style: Style, bytes: &[u8], cells: &mut [u32]) -> usize {
+    match border_reader::read(bytes, cells) {
+        BorderAnswer::Read(level, count) => {
+            put_border(out, style, level, lists::cells_in(cells, 0, count as usize))
+        }
+        BorderAnswer::Refused(n) => out::refused(out, 0, n),
+    }
+}
+
+// Reads a stored border into a slice of so many cells.
+pub fn read(out: &mut [u8], style: Style, room: u32, bytes: &[u8]) -> usize {
+    let mut cells = [0u32; CELLS];
+    if CELLS < room as usize {
+        return 0;
+    }
+    read_in(
+        out,
+        style,
+        bytes,
+        lists::front_cells(&mut cells, room as usize),
+    )
+}
+
+fn write_in(out: &mut [u8], level: u32, cells: &[u32], bytes: &mut [u8]) -> usize {
+    match border_writer::write(level, cells, bytes) {
+        LengthAnswer::Written(length) => {
+            out::numbers(out, 0, lists::bytes_in(bytes, 0, length as usize))
+        }
+        LengthAnswer::Refused(n) => out::refused(out, 0, n),
+    }
+}
+
+// Writes a border into a slice of so many bytes.
+pub fn write(out: &mut [u8], room: u32, level: u32, cells: &[u32]) -> usize {
+    let mut bytes = [0u8; BYTES];
+    if BYTES < room as usize {
+        return 0;
+    }
+    write_in(out, level, cells, lists::front(&mut bytes, room as usize))
+}
