@@ -7,3 +7,4 @@ pub mod Demand2
 pub mod Steps
 pub mod Growings
 pub mod Demand3
+pub mod Worked

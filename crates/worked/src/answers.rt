@@ -21,12 +21,13 @@ fn signed(kind: u8, number: u32) -> i32 {
     if kind == b'-' { 0 - size } else { size }
 }
 
-fn cell_call(out: &mut [u8], call: usize, style: Style, numbers: &[u32; WORDS]) -> usize {
+// Cells by number and place.
+fn cell_call(out: &mut [u8], call: usize, style: Style, values: &[u32; WORDS]) -> usize {
     match call {
-        0 => cells::place(out, style.level, numbers[1]),
-        1 => cells::number(out, style, numbers[1], numbers[2], numbers[3], numbers[4]),
-        2 => cells::centroid(out, style.level, numbers[1]),
-        _ => cells::centre(out, style.level, numbers[1]),
+        0 => cells::place(out, style.level, values[1]),
+        1 => cells::number(out, style, values[1], values[2], values[3], values[4]),
+        2 => cells::centroid(out, style.level, values[1]),
+        _ => cells::centre(out, style.level, values[1]),
     }
 }
 
@@ -35,13 +36,13 @@ fn position_call(
     call: usize,
     style: Style,
     kinds: &[u8],
-    numbers: &[u32; WORDS],
+    values: &[u32; WORDS],
 ) -> usize {
     if kinds.len() < 4 {
         return 0;
     }
-    let latitude = signed(kinds[1], numbers[1]);
-    let longitude = signed(kinds[2], numbers[2]);
+    let latitude = signed(kinds[1], values[1]);
+    let longitude = signed(kinds[2], values[2]);
     if call == 3 {
         return cells::cell(out, style, latitude, longitude);
     }
@@ -50,7 +51,7 @@ fn position_call(
         style.level,
         latitude,
         longitude,
-        lists::cells_in(numbers, 3, kinds.len() - 1),
+        lists::cells_in(values, 3, kinds.len() - 1),
     )
 }
 
@@ -64,25 +65,25 @@ fn step_call(
     call: usize,
     style: Style,
     words: usize,
-    numbers: &[u32; WORDS],
-    small: &[u8; WORDS],
+    values: &[u32; WORDS],
 ) -> usize {
     match call {
-        6 => steps::step(out, style, numbers[1], small[2]),
-        7 => steps::code(out, style.level, numbers[1], numbers[2]),
-        8 => steps::codes(out, style.level, lists::cells_in(numbers, 1, words)),
-        9 => steps::path(out, style, numbers[1], lists::bytes_in(small, 2, words)),
-        10 => steps::touch(out, style.level, numbers[1], numbers[2]),
-        _ => steps::touching(out, style, numbers[1], room_of(words, numbers[2])),
+        6 => steps::step(out, style, values[1], lists::low_byte(values[2])),
+        7 => steps::code(out, style.level, values[1], values[2]),
+        8 => steps::codes(out, style.level, lists::cells_in(values, 1, words)),
+        9 => steps::path(out, style, values[1], lists::cells_in(values, 2, words)),
+        10 => steps::touch(out, style.level, values[1], values[2]),
+        _ => steps::touching(out, style, values[1], room_of(words, values[2])),
     }
 }
 
-fn source_call(out: &mut [u8], call: usize, level: u32, number: u32, code: u8) -> usize {
+// What the sources say of all cells of a level, and the length of masks.
+fn level_call(out: &mut [u8], call: usize, level: u32, value: u32) -> usize {
     match call {
-        12 => tally::tally(out, level),
-        13 => digits::rule(out, level, code),
+        12 => tally::tally(out, level, value),
+        13 => digits::rule(out, level, lists::low_byte(value)),
         14 => digits::distance(out, level),
-        _ => masks::mask(out, level, number),
+        _ => masks::mask(out, level, value),
     }
 }
 
@@ -91,24 +92,17 @@ fn mask_call(
     call: usize,
     style: Style,
     kinds: &[u8],
-    numbers: &[u32; WORDS],
+    values: &[u32; WORDS],
 ) -> usize {
-    let first = lists::part_at(kinds, 1);
     let part = lists::part_at(kinds, 2);
     match call {
-        16 => masks::count(out, style.level, first, numbers),
-        17 => masks::spread(out, style, true, numbers[1], part, numbers),
-        18 => masks::spread(out, style, false, numbers[1], part, numbers),
-        21 => masks::fill(out, style, false, numbers[1], part, numbers),
-        22 => masks::fill(out, style, true, numbers[1], part, numbers),
-        _ => masks::pair(
-            out,
-            style,
-            call == 19,
-            first,
-            lists::part_at(kinds, first.next),
-            numbers,
-        ),
+        16 => masks::count(out, style.level, lists::part_at(kinds, 1), values),
+        17 => masks::spread(out, style, true, part, values),
+        18 => masks::spread(out, style, false, part, values),
+        19 => masks::pair(out, style, true, kinds, values),
+        20 => masks::pair(out, style, false, kinds, values),
+        21 => masks::fill(out, style, false, part, values),
+        _ => masks::fill(out, style, true, part, values),
     }
 }
 
@@ -116,55 +110,32 @@ fn list_call(
     out: &mut [u8],
     call: usize,
     style: Style,
-    words: usize,
     kinds: &[u8],
-    numbers: &[u32; WORDS],
-    small: &[u8; WORDS],
-    reals: &[f32; WORDS],
+    words: usize,
+    values: &[u32; WORDS],
 ) -> usize {
     match call {
-        23 => charts::reading_of(out, style.level, numbers[1], kinds, small, reals),
-        24 => charts::day_of(out, style.level, numbers[1], kinds, numbers, small, reals),
-        25 => borders::read(out, style, numbers[0], lists::bytes_in(small, 1, words)),
-        _ => borders::write(
-            out,
-            numbers[0],
-            numbers[1],
-            lists::cells_in(numbers, 2, words),
-        ),
+        23 => charts::reading(out, style.level, kinds, values),
+        24 => charts::day(out, kinds, values),
+        25 => borders::read(out, style, values[0], lists::cells_in(values, 1, words)),
+        _ => borders::write(out, values[0], values[1], lists::cells_in(values, 2, words)),
     }
 }
 
-// Makes a call by its number in the table of names.
-fn make(
-    out: &mut [u8],
-    call: usize,
-    style: Style,
-    kinds: &[u8],
-    numbers: &[u32; WORDS],
-    small: &[u8; WORDS],
-    reals: &[f32; WORDS],
-) -> usize {
+// Makes a call by its row in the table of names.
+fn make(out: &mut [u8], call: usize, style: Style, kinds: &[u8], values: &[u32; WORDS]) -> usize {
     if kinds.len() == 0 {
         return 0;
     }
     let words = kinds.len() - 1;
-    if call == 3 || call == 5 {
-        return position_call(out, call, style, kinds, numbers);
+    match call {
+        3 | 5 => position_call(out, call, style, kinds, values),
+        0..=5 => cell_call(out, call, style, values),
+        6..=11 => step_call(out, call, style, words, values),
+        12..=15 => level_call(out, call, style.level, values[1]),
+        16..=22 => mask_call(out, call, style, kinds, values),
+        _ => list_call(out, call, style, kinds, words, values),
     }
-    if call < 6 {
-        return cell_call(out, call, style, numbers);
-    }
-    if call < 12 {
-        return step_call(out, call, style, words, numbers, small);
-    }
-    if call < 16 {
-        return source_call(out, call, style.level, numbers[1], small[1]);
-    }
-    if call < 23 {
-        return mask_call(out, call, style, kinds, numbers);
-    }
-    list_call(out, call, style, words, kinds, numbers, small, reals)
 }
 
 // Puts the end after the words, and answers how many they are with it; 0 where there is no room.
@@ -185,26 +156,22 @@ fn ends_in_list(text: &[u8]) -> bool {
     check::same(&text[n - 5..], b" list")
 }
 
-// Reads the words of a case; the words of a list where `list` stands at its end.
+// Reads the words of a case; those of a list where `list` stands at its end.
 fn read_words(
     text: &[u8],
     list: &[u8],
     kinds: &mut [u8; WORDS],
-    numbers: &mut [u32; WORDS],
-    small: &mut [u8; WORDS],
-    reals: &mut [f32; WORDS],
+    values: &mut [u32; WORDS],
 ) -> usize {
-    if ends_in_list(text) {
-        let n = text.len();
-        if n < 5 {
-            return 0;
-        }
-        let first = words::read(&text[0..n - 5], 0, kinds, numbers, small, reals);
-        let count = words::read(list, first, kinds, numbers, small, reals);
-        return ended(count, kinds);
+    if !ends_in_list(text) {
+        return words::read(text, 0, kinds, values);
     }
-    let count = words::read(text, 0, kinds, numbers, small, reals);
-    ended(count, kinds)
+    let n = text.len();
+    if n < 5 {
+        return 0;
+    }
+    let first = words::read(&text[0..n - 5], 0, kinds, values);
+    words::read(list, first, kinds, values)
 }
 
 fn has_address(expected: &[u8]) -> bool {
@@ -218,46 +185,27 @@ fn choose(
     addresses: bool,
     count: usize,
     kinds: &[u8; WORDS],
-    numbers: &[u32; WORDS],
-    small: &[u8; WORDS],
-    reals: &[f32; WORDS],
+    values: &[u32; WORDS],
 ) -> usize {
     let used = lists::bytes_in(kinds, 0, count);
     if !shapes::fits(call, used) {
         return 0;
     }
     let style = Style {
-        level: numbers[0],
+        level: values[0],
         addresses,
     };
-    make(out, call, style, used, numbers, small, reals)
+    make(out, call, style, used, values)
 }
 
 // Puts the answer of a case into a slice, and answers its length: 0 where it is no case, and past the slice where the answer has no room. `list`
 // is what the word list stands for. Cells are answered as addresses where the expected answer has them.
 pub fn answer(out: &mut [u8; LENGTH], case: &[u8], list: &[u8], expected: &[u8]) -> usize {
     let mut kinds = [0u8; WORDS];
-    let mut numbers = [0u32; WORDS];
-    let mut small = [0u8; WORDS];
-    let mut reals = [0.0f32; WORDS];
+    let mut values = [0u32; WORDS];
     let end = bytes::scan::find(case, 0, case.len(), b' ');
     let call = shapes::call_of(&case[0..end]);
-    let count = read_words(
-        &case[end..],
-        list,
-        &mut kinds,
-        &mut numbers,
-        &mut small,
-        &mut reals,
-    );
-    choose(
-        out,
-        call,
-        has_address(expected),
-        count,
-        &kinds,
-        &numbers,
-        &small,
-        &reals,
-    )
+    let words = read_words(&case[end..], list, &mut kinds, &mut values);
+    let count = ended(words, &mut kinds);
+    choose(out, call, has_address(expected), count, &kinds, &values)
 }

@@ -2,6 +2,7 @@
 use crate::lists;
 use crate::out;
 use crate::out::Style;
+use crate::words::WORDS;
 use border_reader::BorderAnswer;
 use border_writer::LengthAnswer;
 
@@ -12,9 +13,7 @@ const CELLS: usize = 4098;
 const BYTES: usize = 1545;
 
 fn put_border(out: &mut [u8], style: Style, level: u32, cells: &[u32]) -> usize {
-    let first = out::text(out, 0, b"level ");
-    let at = out::number(out, first, level);
-    let next = out::text(out, at, b":");
+    let next = out::form(out, 0, b"level %:", &[level]);
     out::cells(
         out,
         next,
@@ -36,7 +35,13 @@ fn read_in(out: &mut [u8], style: Style, bytes: &[u8], cells: &mut [u32]) -> usi
 }
 
 // Reads a stored border into a slice of so many cells.
-pub fn read(out: &mut [u8], style: Style, room: u32, bytes: &[u8]) -> usize {
+fn read_bytes(
+    out: &mut [u8],
+    style: Style,
+    room: u32,
+    bytes: &[u8; WORDS],
+    length: usize,
+) -> usize {
     let mut cells = [0u32; CELLS];
     if CELLS < room as usize {
         return 0;
@@ -44,9 +49,15 @@ pub fn read(out: &mut [u8], style: Style, room: u32, bytes: &[u8]) -> usize {
     read_in(
         out,
         style,
-        bytes,
+        lists::bytes_in(bytes, 0, length),
         lists::front_cells(&mut cells, room as usize),
     )
+}
+
+pub fn read(out: &mut [u8], style: Style, room: u32, list: &[u32]) -> usize {
+    let mut bytes = [0u8; WORDS];
+    lists::copy_bytes(list, &mut bytes);
+    read_bytes(out, style, room, &bytes, list.len())
 }
 
 fn write_in(out: &mut [u8], level: u32, cells: &[u32], bytes: &mut [u8]) -> usize {

@@ -12,21 +12,12 @@ use position::Latitude;
 use position::Longitude;
 
 // As in octant 0 down(3,9).
-fn put_place(out: &mut [u8], octant: u32, kind: &[u8], row: u32, col: u32) -> usize {
-    let first = out::text(out, 0, b"octant ");
-    let at = out::number(out, first, octant);
-    let open = out::text(out, at, kind);
-    let second = out::number(out, open, row);
-    let comma = out::text(out, second, b",");
-    let third = out::number(out, comma, col);
-    out::text(out, third, b")")
-}
-
 fn place_at(out: &mut [u8], place: Place) -> usize {
     let kind = place.kind;
+    let numbers = [place.octant, place.row, place.col];
     match kind {
-        Kind::Up => put_place(out, place.octant, b" up(", place.row, place.col),
-        Kind::Down => put_place(out, place.octant, b" down(", place.row, place.col),
+        Kind::Up => out::form(out, 0, b"octant % up(%,%)", &numbers),
+        Kind::Down => out::form(out, 0, b"octant % down(%,%)", &numbers),
     }
 }
 
@@ -37,8 +28,9 @@ pub fn place(out: &mut [u8], level: u32, cell: u32) -> usize {
     }
 }
 
+// The words up and down have the values 8 and 9.
 fn kind_of(n: u32) -> Kind {
-    if n == 0 { Kind::Up } else { Kind::Down }
+    if n == 8 { Kind::Up } else { Kind::Down }
 }
 
 pub fn number(out: &mut [u8], style: Style, octant: u32, kind: u32, row: u32, col: u32) -> usize {
@@ -59,10 +51,7 @@ pub fn number(out: &mut [u8], style: Style, octant: u32, kind: u32, row: u32, co
 fn put_centroid(out: &mut [u8], row: u32, col: u32, s: u32) -> usize {
     let y = 3 * (row % 0x4000) + s % 4;
     let x = (2 * (3 * (col % 0x4000) + s % 4) + y) / 3;
-    let first = out::text(out, 0, b"X ");
-    let at = out::number(out, first, x);
-    let second = out::text(out, at, b" Y ");
-    out::number(out, second, y)
+    out::form(out, 0, b"X % Y %", &[x, y])
 }
 
 fn centroid_at(out: &mut [u8], place: Place) -> usize {

@@ -52,10 +52,24 @@ pub fn front_reals(list: &mut [f32], size: usize) -> &mut [f32] {
     &mut list[0..size]
 }
 
-// Where a list of words stands, whether the word long stood after it, and where the next list begins.
+pub fn low_byte(n: u32) -> u8 {
+    (n % 256) as u8
+}
+
+// Puts numbers below 256 into bytes.
+pub fn copy_bytes(from: &[u32], to: &mut [u8]) {
+    let mut i = 0;
+    while i < from.len() && i < to.len() {
+        to[i] = low_byte(from[i]);
+        i += 1;
+    }
+}
+
+// Where a list of words stands, how many they are, whether the word long stood after it, and where the next list begins.
 pub struct Part {
     pub from: usize,
     pub to: usize,
+    pub size: usize,
     pub long: bool,
     pub next: usize,
 }
@@ -67,6 +81,7 @@ pub fn part_at(kinds: &[u8], from: usize) -> Part {
         return Part {
             from: 0,
             to: 0,
+            size: 0,
             long: false,
             next: 0,
         };
@@ -77,6 +92,7 @@ pub fn part_at(kinds: &[u8], from: usize) -> Part {
             return Part {
                 from,
                 to: to - 1,
+                size: to - 1 - from,
                 long: true,
                 next: to + 1,
             };
@@ -85,6 +101,7 @@ pub fn part_at(kinds: &[u8], from: usize) -> Part {
     Part {
         from,
         to,
+        size: to - from,
         long: false,
         next: to + 1,
     }

@@ -10,6 +10,7 @@ mod digits;
 mod judge;
 mod lists;
 mod masks;
+mod names;
 mod out;
 mod shapes;
 mod steps;

@@ -98,10 +98,10 @@ fn put_count(out: &mut [u8], level: u32, mask: &[u8]) -> usize {
     }
 }
 
-pub fn count(out: &mut [u8], level: u32, part: Part, numbers: &[u32; WORDS]) -> usize {
+pub fn count(out: &mut [u8], level: u32, part: Part, values: &[u32; WORDS]) -> usize {
     let mut all = [0u8; BYTES];
     let mask = lists::front(&mut all, size_with(level, part.long));
-    if !mark_all(lists::cells_in(numbers, part.from, part.to), mask) {
+    if !mark_all(lists::cells_in(values, part.from, part.to), mask) {
         return 0;
     }
     put_count(out, level, mask)
@@ -137,23 +137,22 @@ pub fn spread(
     out: &mut [u8],
     style: Style,
     grows: bool,
-    rings: u32,
     part: Part,
-    numbers: &[u32; WORDS],
+    values: &[u32; WORDS],
 ) -> usize {
     let mut all = [0u8; BYTES];
     let mut made = [0u8; BYTES];
     let mut work = [0u8; BYTES];
     let size = size_of(style.level);
     let mask = lists::front(&mut all, size_with(style.level, part.long));
-    if !mark_all(lists::cells_in(numbers, part.from, part.to), mask) {
+    if !mark_all(lists::cells_in(values, part.from, part.to), mask) {
         return 0;
     }
     spread_in(
         out,
         style,
         grows,
-        rings,
+        values[1],
         mask,
         lists::front(&mut made, size),
         lists::front(&mut work, size),
@@ -183,19 +182,20 @@ pub fn pair(
     out: &mut [u8],
     style: Style,
     joins: bool,
-    first: Part,
-    second: Part,
-    numbers: &[u32; WORDS],
+    kinds: &[u8],
+    values: &[u32; WORDS],
 ) -> usize {
+    let first = lists::part_at(kinds, 1);
+    let second = lists::part_at(kinds, first.next);
     let mut all = [0u8; BYTES];
     let mut others = [0u8; BYTES];
     let mut made = [0u8; BYTES];
     let one = lists::front(&mut all, size_with(style.level, first.long));
     let other = lists::front(&mut others, size_with(style.level, second.long));
-    if !mark_all(lists::cells_in(numbers, first.from, first.to), one) {
+    if !mark_all(lists::cells_in(values, first.from, first.to), one) {
         return 0;
     }
-    if !mark_all(lists::cells_in(numbers, second.from, second.to), other) {
+    if !mark_all(lists::cells_in(values, second.from, second.to), other) {
         return 0;
     }
     if joins {
@@ -234,21 +234,20 @@ pub fn fill(
     out: &mut [u8],
     style: Style,
     counts: bool,
-    outside: u32,
     part: Part,
-    numbers: &[u32; WORDS],
+    values: &[u32; WORDS],
 ) -> usize {
     let mut all = [0u8; BYTES];
     let mut made = [0u8; BYTES];
     let border = lists::front(&mut all, size_with(style.level, part.long));
-    if !mark_all(lists::cells_in(numbers, part.from, part.to), border) {
+    if !mark_all(lists::cells_in(values, part.from, part.to), border) {
         return 0;
     }
     put_filled(
         out,
         style,
         counts,
-        outside,
+        values[1],
         border,
         lists::front(&mut made, size_of(style.level)),
     )

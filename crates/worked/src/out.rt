@@ -1,5 +1,6 @@
 // Answers as text, put into a slice piece by piece.
 use crate::address;
+use crate::temperature;
 
 // A place past every slice: where a piece did not fit, so that no shortened answer is taken for a whole one.
 pub const NO_ROOM: usize = 0x100_0000;
@@ -11,6 +12,9 @@ pub struct Style {
 }
 
 pub fn text(out: &mut [u8], at: usize, piece: &[u8]) -> usize {
+    if piece.len() == 0 {
+        return at;
+    }
     let next = text::append(out, at, piece);
     if next == at {
         return NO_ROOM;
@@ -39,6 +43,40 @@ pub fn signed(out: &mut [u8], at: usize, n: i32) -> usize {
     } else {
         number(out, at, size_of(n))
     }
+}
+
+fn value_at(values: &[u32], i: usize) -> u32 {
+    if i < values.len() {
+        return values[i];
+    }
+    0
+}
+
+// A character of a form: a value where it is % or ~, or itself.
+fn form_character(out: &mut [u8], at: usize, character: u8, value: u32) -> usize {
+    match character {
+        b'%' => number(out, at, value),
+        b'~' => temperature::put(out, at, value),
+        _ => text(out, at, &[character]),
+    }
+}
+
+fn used_after(used: usize, character: u8) -> usize {
+    if character == b'%' || character == b'~' {
+        return used % 16 + 1;
+    }
+    used
+}
+
+// A text with values in it, in order: a number for each %, and a temperature, by its bits, for each ~.
+pub fn form(out: &mut [u8], from: usize, format: &[u8], values: &[u32]) -> usize {
+    let mut at = from;
+    let mut used = 0;
+    for i in 0..format.len() {
+        at = form_character(out, at, format[i], value_at(values, used));
+        used = used_after(used, format[i]);
+    }
+    at
 }
 
 pub fn refused(out: &mut [u8], at: usize, n: u8) -> usize {

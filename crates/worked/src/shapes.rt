@@ -1,9 +1,9 @@
 // The names of the calls, and which words each takes.
+use crate::names;
+use crate::names::ROW;
 
 // How many names there are.
 pub const NAMES: usize = 27;
-
-const ROW: usize = 20;
 
 // A name, in eight characters, and what follows it, in twelve: n a number, s a number with a sign, c a code, k up or down, l the word long where
 // it stands there, o a number where it stands there, N, C, B and R a list of numbers, codes, bytes and temperatures, / a bar, and . the end.
@@ -19,7 +19,7 @@ const TABLE: [u8; 540] = *b"place   nn.         \
     path    nnC.        \
     touch   nnn.        \
     touchingnno.        \
-    tally   n.          \
+    tally   nn.         \
     rule    nc.         \
     distancen.          \
     mask    nn.         \
@@ -35,31 +35,9 @@ const TABLE: [u8; 540] = *b"place   nn.         \
     read    nB.         \
     write   nnN.        ";
 
-fn padded(name: &[u8]) -> [u8; 8] {
-    let mut all = [b' '; 8];
-    if name.len() <= 8 {
-        bytes::copy(name, &mut all);
-    }
-    all
-}
-
-// The row of a table that begins with a name; NAMES or more where none does.
-fn row_of(table: &[u8], name: &[u8]) -> usize {
-    let mut row = 0;
-    let mut at = 0;
-    while at + ROW <= table.len() {
-        if check::same(&table[at..at + 8], name) {
-            return row;
-        }
-        at += ROW;
-        row += 1;
-    }
-    NAMES
-}
-
 // Which call a name is; NAMES or more where it is none.
 pub fn call_of(name: &[u8]) -> usize {
-    row_of(&TABLE, &padded(name))
+    names::row_of(&TABLE, name)
 }
 
 // Whether a letter of a shape takes a word of a kind.

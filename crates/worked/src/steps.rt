@@ -47,12 +47,12 @@ pub fn codes(out: &mut [u8], level: u32, list: &[u32]) -> usize {
 }
 
 // The cells that steps lead to, one after the other, to the first that is refused.
-pub fn path(out: &mut [u8], style: Style, start: u32, list: &[u8]) -> usize {
+pub fn path(out: &mut [u8], style: Style, start: u32, list: &[u32]) -> usize {
     let mut at = 0;
     let mut cell = start;
     for i in 0..list.len() {
         let next = out::space(out, at);
-        match step::step_along(style.level, cell, list[i]) {
+        match step::step_along(style.level, cell, lists::low_byte(list[i])) {
             StepAnswer::To(to) => {
                 at = out::cell(out, next, style, to);
                 cell = to;

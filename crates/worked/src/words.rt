@@ -1,34 +1,42 @@
-// The words of a case, read into lists: for each its kind, and its value as a number, as a byte and as a temperature.
+// The words of a case, read into two lists: their kinds and their values.
 use crate::address;
 use crate::decimal;
+use crate::names;
 use crate::temperature;
 
 // How many words a case may have.
 pub const WORDS: usize = 4200;
 
-// A word: its kind, its value, and how often it stands there. The kinds: b a number below 256, n one below 2^31, m one above that, - a number below zero, r a
-// temperature, c the letter of a code, k up (0) or down (1), l the word long, / a bar, . the end of the case, and ? what is none of these.
+// Words that have names. Each row is the name, the kind, and what is read as its value: the row's number.
+const NAMED: [u8; 300] = *b"t                   \
+    l                   \
+    r                   \
+    e                   \
+    w                   \
+    T                   \
+    E                   \
+    W                   \
+    up                  \
+    down                \
+    long                \
+    /                   \
+    inf                 \
+    -inf                \
+    nan                 ";
+
+// A word: its kind, its value, and how often it stands there. The kinds: b a number below 256, n one below 2^31, m one above that, - a number below
+// zero, by its size, r a temperature, by its bits, c the letter of a code, k up (8) or down (9), l the word long, / a bar, . the end of the case,
+// and ? what is none of these.
 pub struct Word {
     pub kind: u8,
-    pub number: u32,
-    pub real: f32,
+    pub value: u32,
     pub times: u32,
 }
 
-pub fn of_kind(kind: u8, number: u32) -> Word {
+pub fn of_kind(kind: u8, value: u32) -> Word {
     Word {
         kind,
-        number,
-        real: 0.0,
-        times: 1,
-    }
-}
-
-pub fn real(value: f32) -> Word {
-    Word {
-        kind: b'r',
-        number: 0,
-        real: value,
+        value,
         times: 1,
     }
 }
@@ -47,33 +55,17 @@ pub fn whole(n: u32) -> Word {
     of_kind(b'm', n)
 }
 
-// A word of one character: a bar, or the letter of a code.
-fn letter(character: u8) -> Word {
-    match character {
-        b'/' => of_kind(b'/', 0),
-        b't' => of_kind(b'c', 0),
-        b'l' => of_kind(b'c', 1),
-        b'r' => of_kind(b'c', 2),
-        b'e' => of_kind(b'c', 3),
-        b'w' => of_kind(b'c', 4),
-        b'T' => of_kind(b'c', 5),
-        b'E' => of_kind(b'c', 6),
-        b'W' => of_kind(b'c', 7),
-        _ => unreadable(),
+// A word by its row in the table of names.
+fn named(row: u32) -> Word {
+    match row {
+        0..=7 => of_kind(b'c', row),
+        8 | 9 => of_kind(b'k', row),
+        10 => of_kind(b'l', 0),
+        11 => of_kind(b'/', 0),
+        12 => of_kind(b'r', temperature::INFINITY),
+        13 => of_kind(b'r', temperature::INFINITY + temperature::SIGN),
+        _ => of_kind(b'r', temperature::NO_NUMBER),
     }
-}
-
-fn name(text: &[u8]) -> Word {
-    if check::same(text, b"up") {
-        return of_kind(b'k', 0);
-    }
-    if check::same(text, b"down") {
-        return of_kind(b'k', 1);
-    }
-    if check::same(text, b"long") {
-        return of_kind(b'l', 0);
-    }
-    temperature::named(text)
 }
 
 // The cell number of an address.
@@ -84,69 +76,69 @@ fn addressed(text: &[u8]) -> Word {
     unreadable()
 }
 
-// A word of two characters or more that begins with a minus sign.
-fn below_zero(text: &[u8]) -> Word {
-    if check::same(text, b"-infinity") {
-        return temperature::lowest();
-    }
-    if text.len() == 0 {
+// A whole number, from its digits and whether a minus sign stood before them.
+fn number(text: &[u8], negative: bool) -> Word {
+    let n = decimal::digits_of(text);
+    if 0xffff_ffff < n {
         return unreadable();
     }
-    decimal::read(&text[1..], true)
+    if !negative {
+        return whole(n as u32);
+    }
+    if 0x7fff_ffff < n {
+        return unreadable();
+    }
+    of_kind(b'-', n as u32)
+}
+
+fn numeric(text: &[u8], negative: bool) -> Word {
+    if bytes::scan::find(text, 0, text.len(), b'.') < text.len() {
+        let bits = temperature::read(text, negative);
+        if bits == temperature::NO_NUMBER {
+            return unreadable();
+        }
+        return of_kind(b'r', bits);
+    }
+    number(text, negative)
 }
 
 fn single(text: &[u8]) -> Word {
     if text.len() == 0 {
         return unreadable();
     }
-    let first = text[0];
-    if first == b'@' {
+    if text[0] == b'@' {
         return addressed(&text[1..]);
     }
-    if b'0' <= first && first <= b'9' {
-        return decimal::read(text, false);
+    let row = names::row_of(&NAMED, text);
+    if row < 15 {
+        return named(row as u32);
     }
-    if text.len() == 1 {
-        return letter(first);
+    if text[0] == b'-' {
+        return numeric(&text[1..], true);
     }
-    if first == b'-' {
-        return below_zero(text);
-    }
-    name(text)
+    numeric(text, false)
 }
 
 // A word, or a number, a * and the word that stands there so often.
 fn read_word(text: &[u8]) -> Word {
     let star = bytes::scan::find(text, 0, text.len(), b'*');
-    if star == text.len() {
+    if text.len() <= star {
         return single(text);
     }
-    let times = decimal::read(&text[0..star], false);
-    let once = single(&text[star + 1..]);
-    if times.kind == b'b' || times.kind == b'n' {
-        return Word {
-            kind: once.kind,
-            number: once.number,
-            real: once.real,
-            times: times.number,
-        };
+    let times = decimal::digits_of(&text[0..star]);
+    if 0xffff_ffff < times {
+        return unreadable();
     }
-    unreadable()
-}
-
-fn low_byte(n: u32) -> u8 {
-    (n % 256) as u8
+    let once = single(&text[star + 1..]);
+    Word {
+        kind: once.kind,
+        value: once.value,
+        times: times as u32,
+    }
 }
 
 // Puts a word into the lists from a place on, as often as it stands there, and answers the place after it. What does not fit is dropped.
-fn store(
-    word: Word,
-    from: usize,
-    kinds: &mut [u8; WORDS],
-    numbers: &mut [u32; WORDS],
-    small: &mut [u8; WORDS],
-    reals: &mut [f32; WORDS],
-) -> usize {
+fn store(word: Word, from: usize, kinds: &mut [u8; WORDS], values: &mut [u32; WORDS]) -> usize {
     let mut at = from;
     let mut left = word.times;
     while 0 < left {
@@ -154,9 +146,7 @@ fn store(
             return at;
         }
         kinds[at] = word.kind;
-        numbers[at] = word.number;
-        small[at] = low_byte(word.number);
-        reals[at] = word.real;
+        values[at] = word.value;
         at += 1;
         left -= 1;
     }
@@ -164,27 +154,13 @@ fn store(
 }
 
 // Reads the words of a text into the lists from a place on, and answers the place after them.
-pub fn read(
-    text: &[u8],
-    from: usize,
-    kinds: &mut [u8; WORDS],
-    numbers: &mut [u32; WORDS],
-    small: &mut [u8; WORDS],
-    reals: &mut [f32; WORDS],
-) -> usize {
+pub fn read(text: &[u8], from: usize, kinds: &mut [u8; WORDS], values: &mut [u32; WORDS]) -> usize {
     let mut count = from;
     let mut at = 0;
     while at < text.len() {
         let end = bytes::scan::find(text, at, text.len(), b' ');
         if at < end {
-            count = store(
-                read_word(&text[at..end]),
-                count,
-                kinds,
-                numbers,
-                small,
-                reals,
-            );
+            count = store(read_word(&text[at..end]), count, kinds, values);
         }
         at = end + 1;
     }

@@ -15,14 +15,17 @@ abbrev μ-loop : tie.MeasureT-loop
 loop-holds : tie.Need-loop-holds Inv-loop μ-loop
 loop-holds c = search needs
 
+mul-of-bits : tie.Need-mul-of-bits Inv-loop μ-loop
+mul-of-bits c = search needs
+
+shared-slice-read-of-bits : tie.Need-shared-slice-read-of-bits Inv-loop μ-loop
+shared-slice-read-of-bits c = search needs
+
+of-bits-requires : tie.Need-of-bits-requires Inv-loop μ-loop
+of-bits-requires c κs = search needs
+
 mul-to : tie.Need-mul-to Inv-loop μ-loop
 mul-to c = search needs
-
-shared-slice-read-to : tie.Need-shared-slice-read-to Inv-loop μ-loop
-shared-slice-read-to c = search needs
-
-mul-to-2 : tie.Need-mul-to-2 Inv-loop μ-loop
-mul-to-2 c = search needs
 
 slice-write-to : tie.Need-slice-write-to Inv-loop μ-loop
 slice-write-to c = search needs
@@ -55,9 +58,10 @@ copy-reals-spec =
     Inv-loop
     μ-loop
     loop-holds
+    mul-of-bits
+    shared-slice-read-of-bits
+    of-bits-requires
     mul-to
-    shared-slice-read-to
-    mul-to-2
     slice-write-to
     add-i
     loop-less

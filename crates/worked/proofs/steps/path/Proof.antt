@@ -18,8 +18,14 @@ loop-holds c = search needs
 space-requires : tie.Need-space-requires Inv-loop μ-loop
 space-requires c κs = search needs
 
-shared-slice-read-step-along : tie.Need-shared-slice-read-step-along Inv-loop μ-loop
-shared-slice-read-step-along c = search needs
+mul-low-byte : tie.Need-mul-low-byte Inv-loop μ-loop
+mul-low-byte c = search needs
+
+shared-slice-read-low-byte : tie.Need-shared-slice-read-low-byte Inv-loop μ-loop
+shared-slice-read-low-byte c = search needs
+
+low-byte-requires : tie.Need-low-byte-requires Inv-loop μ-loop
+low-byte-requires c κs = search needs
 
 step-along-requires : tie.Need-step-along-requires Inv-loop μ-loop
 step-along-requires c κs = search needs
@@ -65,7 +71,9 @@ path-spec =
     μ-loop
     loop-holds
     space-requires
-    shared-slice-read-step-along
+    mul-low-byte
+    shared-slice-read-low-byte
+    low-byte-requires
     step-along-requires
     enum-known-to
     cell-requires

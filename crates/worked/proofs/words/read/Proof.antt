@@ -6,10 +6,10 @@ use Rattle.worked.proofs.words.read.Statement.{statement}
 use Rattle.worked.proofs.words.read.Tie as tie
 
 abbrev Inv-loop : tie.InvT-loop
-Inv-loop text from kinds₀ numbers₀ small₀ reals₀ count₀ at₀ kinds numbers small reals count at = at ≤ length text + 1
+Inv-loop text from kinds₀ values₀ count₀ at₀ kinds values count at = at ≤ length text + 1
 
 abbrev μ-loop : tie.MeasureT-loop
-μ-loop text from kinds₀ numbers₀ small₀ reals₀ count₀ at₀ kinds numbers small reals count at = length text + 1 - at
+μ-loop text from kinds₀ values₀ count₀ at₀ kinds values count at = length text + 1 - at
 
 loop-holds : tie.Need-loop-holds Inv-loop μ-loop
 loop-holds c = search needs

@@ -4,10 +4,10 @@ use Rattle.worked.proofs.words.store.Statement.{statement}
 use Rattle.worked.proofs.words.store.Tie as tie
 
 abbrev Inv-loop : tie.InvT-loop
-Inv-loop word from kinds₀ numbers₀ small₀ reals₀ at₀ left₀ kinds numbers small reals at left = Unit {0}
+Inv-loop word from kinds₀ values₀ at₀ left₀ kinds values at left = Unit {0}
 
 abbrev μ-loop : tie.MeasureT-loop
-μ-loop word from kinds₀ numbers₀ small₀ reals₀ at₀ left₀ kinds numbers small reals at left = left
+μ-loop word from kinds₀ values₀ at₀ left₀ kinds values at left = left
 
 loop-holds : tie.Need-loop-holds Inv-loop μ-loop
 loop-holds c = search needs
@@ -18,23 +18,11 @@ returns c = search needs
 element-write-kinds : tie.Need-element-write-kinds Inv-loop μ-loop
 element-write-kinds c = search needs
 
-mul-numbers : tie.Need-mul-numbers Inv-loop μ-loop
-mul-numbers c = search needs
+mul-values : tie.Need-mul-values Inv-loop μ-loop
+mul-values c = search needs
 
-element-write-numbers : tie.Need-element-write-numbers Inv-loop μ-loop
-element-write-numbers c = search needs
-
-low-byte-requires : tie.Need-low-byte-requires Inv-loop μ-loop
-low-byte-requires c κs = search needs
-
-element-write-small : tie.Need-element-write-small Inv-loop μ-loop
-element-write-small c = search needs
-
-mul-reals : tie.Need-mul-reals Inv-loop μ-loop
-mul-reals c = search needs
-
-element-write-reals : tie.Need-element-write-reals Inv-loop μ-loop
-element-write-reals c = search needs
+element-write-values : tie.Need-element-write-values Inv-loop μ-loop
+element-write-values c = search needs
 
 add-at : tie.Need-add-at Inv-loop μ-loop
 add-at c = search needs
@@ -60,12 +48,8 @@ store-spec =
     loop-holds
     returns
     element-write-kinds
-    mul-numbers
-    element-write-numbers
-    low-byte-requires
-    element-write-small
-    mul-reals
-    element-write-reals
+    mul-values
+    element-write-values
     add-at
     sub-left
     loop-less
