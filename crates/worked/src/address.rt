@@ -2,6 +2,7 @@
 ghost use mathlib.Core.Path.{_≡_};
 ghost use Rattle.worked.specs.Address.{numberFrom};
 use crate::out;
+use crate::out::LENGTH;
 
 // The cell number of an address. The characters 0 to 7 leave their digits when divided by 8.
 pub fn read(address: &[u8]) -> u32
@@ -41,7 +42,7 @@ pub fn is_address(address: &[u8]) -> bool {
 }
 
 // Puts the address of a cell into a slice.
-pub fn put(out: &mut [u8], from: usize, level: u32, cell: u32) -> usize {
+pub fn put(out: &mut [u8; LENGTH], from: usize, level: u32, cell: u32) -> usize {
     let mut left = level % 15;
     let first = out::text(out, from, b"@");
     let mut at = out::number(out, first, (cell >> (2 * left)) % 8);

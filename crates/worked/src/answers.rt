@@ -5,15 +5,13 @@ use crate::charts;
 use crate::digits;
 use crate::lists;
 use crate::masks;
+use crate::out::LENGTH;
 use crate::out::Style;
 use crate::shapes;
 use crate::steps;
 use crate::tally;
 use crate::words;
 use crate::words::WORDS;
-
-// The bytes of the longest answer.
-pub const LENGTH: usize = 65536;
 
 // A number with its sign.
 fn signed(kind: u8, number: u32) -> i32 {
@@ -22,7 +20,7 @@ fn signed(kind: u8, number: u32) -> i32 {
 }
 
 // Cells by number and place.
-fn cell_call(out: &mut [u8], call: usize, style: Style, values: &[u32; WORDS]) -> usize {
+fn cell_call(out: &mut [u8; LENGTH], call: usize, style: Style, values: &[u32; WORDS]) -> usize {
     match call {
         0 => cells::place(out, style.level, values[1]),
         1 => cells::number(out, style, values[1], values[2], values[3], values[4]),
@@ -32,7 +30,7 @@ fn cell_call(out: &mut [u8], call: usize, style: Style, values: &[u32; WORDS]) -
 }
 
 fn position_call(
-    out: &mut [u8],
+    out: &mut [u8; LENGTH],
     call: usize,
     style: Style,
     kinds: &[u8],
@@ -61,7 +59,7 @@ fn room_of(words: usize, given: u32) -> usize {
 }
 
 fn step_call(
-    out: &mut [u8],
+    out: &mut [u8; LENGTH],
     call: usize,
     style: Style,
     words: usize,
@@ -78,7 +76,7 @@ fn step_call(
 }
 
 // What the sources say of all cells of a level, and the length of masks.
-fn level_call(out: &mut [u8], call: usize, level: u32, value: u32) -> usize {
+fn level_call(out: &mut [u8; LENGTH], call: usize, level: u32, value: u32) -> usize {
     match call {
         12 => tally::tally(out, level, value),
         13 => digits::rule(out, level, lists::low_byte(value)),
@@ -88,7 +86,7 @@ fn level_call(out: &mut [u8], call: usize, level: u32, value: u32) -> usize {
 }
 
 fn mask_call(
-    out: &mut [u8],
+    out: &mut [u8; LENGTH],
     call: usize,
     style: Style,
     kinds: &[u8],
@@ -107,7 +105,7 @@ fn mask_call(
 }
 
 fn list_call(
-    out: &mut [u8],
+    out: &mut [u8; LENGTH],
     call: usize,
     style: Style,
     kinds: &[u8],
@@ -123,7 +121,13 @@ fn list_call(
 }
 
 // Makes a call by its row in the table of names.
-fn make(out: &mut [u8], call: usize, style: Style, kinds: &[u8], values: &[u32; WORDS]) -> usize {
+fn make(
+    out: &mut [u8; LENGTH],
+    call: usize,
+    style: Style,
+    kinds: &[u8],
+    values: &[u32; WORDS],
+) -> usize {
     if kinds.len() == 0 {
         return 0;
     }
@@ -180,7 +184,7 @@ fn has_address(expected: &[u8]) -> bool {
 
 // Makes a call where the words, so many with the end, are those that it takes.
 fn choose(
-    out: &mut [u8],
+    out: &mut [u8; LENGTH],
     call: usize,
     addresses: bool,
     count: usize,

@@ -1,6 +1,7 @@
 // Stored borders.
 use crate::lists;
 use crate::out;
+use crate::out::LENGTH;
 use crate::out::Style;
 use crate::words::WORDS;
 use border_reader::BorderAnswer;
@@ -12,7 +13,7 @@ const CELLS: usize = 4098;
 // The bytes of the longest border, and one more.
 const BYTES: usize = 1545;
 
-fn put_border(out: &mut [u8], style: Style, level: u32, cells: &[u32]) -> usize {
+fn put_border(out: &mut [u8; LENGTH], style: Style, level: u32, cells: &[u32]) -> usize {
     let next = out::form(out, 0, b"level %:", &[level]);
     out::cells(
         out,
@@ -25,7 +26,7 @@ fn put_border(out: &mut [u8], style: Style, level: u32, cells: &[u32]) -> usize 
     )
 }
 
-fn read_in(out: &mut [u8], style: Style, bytes: &[u8], cells: &mut [u32]) -> usize {
+fn read_in(out: &mut [u8; LENGTH], style: Style, bytes: &[u8], cells: &mut [u32]) -> usize {
     match border_reader::read(bytes, cells) {
         BorderAnswer::Read(level, count) => {
             put_border(out, style, level, lists::cells_in(cells, 0, count as usize))
@@ -36,7 +37,7 @@ fn read_in(out: &mut [u8], style: Style, bytes: &[u8], cells: &mut [u32]) -> usi
 
 // Reads a stored border into a slice of so many cells.
 fn read_bytes(
-    out: &mut [u8],
+    out: &mut [u8; LENGTH],
     style: Style,
     room: u32,
     bytes: &[u8; WORDS],
@@ -54,13 +55,13 @@ fn read_bytes(
     )
 }
 
-pub fn read(out: &mut [u8], style: Style, room: u32, list: &[u32]) -> usize {
+pub fn read(out: &mut [u8; LENGTH], style: Style, room: u32, list: &[u32]) -> usize {
     let mut bytes = [0u8; WORDS];
     lists::copy_bytes(list, &mut bytes);
     read_bytes(out, style, room, &bytes, list.len())
 }
 
-fn write_in(out: &mut [u8], level: u32, cells: &[u32], bytes: &mut [u8]) -> usize {
+fn write_in(out: &mut [u8; LENGTH], level: u32, cells: &[u32], bytes: &mut [u8]) -> usize {
     match border_writer::write(level, cells, bytes) {
         LengthAnswer::Written(length) => {
             out::numbers(out, 0, lists::bytes_in(bytes, 0, length as usize))
@@ -70,7 +71,7 @@ fn write_in(out: &mut [u8], level: u32, cells: &[u32], bytes: &mut [u8]) -> usiz
 }
 
 // Writes a border into a slice of so many bytes.
-pub fn write(out: &mut [u8], room: u32, level: u32, cells: &[u32]) -> usize {
+pub fn write(out: &mut [u8; LENGTH], room: u32, level: u32, cells: &[u32]) -> usize {
     let mut bytes = [0u8; BYTES];
     if BYTES < room as usize {
         return 0;

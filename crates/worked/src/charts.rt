@@ -3,6 +3,7 @@ use crate::lists;
 use crate::lists::Part;
 use crate::masks;
 use crate::out;
+use crate::out::LENGTH;
 use crate::temperature;
 use crate::words::WORDS;
 use chart::ReadingAnswer;
@@ -16,7 +17,7 @@ fn copy_reals(from: &[u32], to: &mut [f32]) {
     }
 }
 
-fn put_reading(out: &mut [u8], answer: ReadingAnswer) -> usize {
+fn put_reading(out: &mut [u8; LENGTH], answer: ReadingAnswer) -> usize {
     match answer {
         ReadingAnswer::Fresh(t) => out::form(out, 0, b"fresh ~", &[temperature::bits_of(t)]),
         ReadingAnswer::Carried(t, days) => out::form(
@@ -31,7 +32,7 @@ fn put_reading(out: &mut [u8], answer: ReadingAnswer) -> usize {
 }
 
 fn reading_in(
-    out: &mut [u8],
+    out: &mut [u8; LENGTH],
     level: u32,
     cell: u32,
     temperatures: &[f32; WORDS],
@@ -49,7 +50,7 @@ fn reading_in(
 }
 
 // The reading of a cell, with the two lists of its chart.
-pub fn reading(out: &mut [u8], level: u32, kinds: &[u8], values: &[u32; WORDS]) -> usize {
+pub fn reading(out: &mut [u8; LENGTH], level: u32, kinds: &[u8], values: &[u32; WORDS]) -> usize {
     let first = lists::part_at(kinds, 2);
     let second = lists::part_at(kinds, first.next);
     let mut temperatures = [0.0f32; WORDS];
@@ -70,7 +71,7 @@ pub fn reading(out: &mut [u8], level: u32, kinds: &[u8], values: &[u32; WORDS]) 
     )
 }
 
-fn put_day(out: &mut [u8], answer: DayAnswer) -> usize {
+fn put_day(out: &mut [u8; LENGTH], answer: DayAnswer) -> usize {
     match answer {
         DayAnswer::Summed(summary) => out::form(
             out,
@@ -87,7 +88,12 @@ fn put_day(out: &mut [u8], answer: DayAnswer) -> usize {
 }
 
 // A day, and what it leaves of the two slices of the chart.
-fn put_chart(out: &mut [u8], answer: DayAnswer, temperatures: &[f32], ages: &[u8]) -> usize {
+fn put_chart(
+    out: &mut [u8; LENGTH],
+    answer: DayAnswer,
+    temperatures: &[f32],
+    ages: &[u8],
+) -> usize {
     let at = put_day(out, answer);
     let first = out::text(out, at, b" /");
     let next = temperature::put_all(out, first, temperatures);
@@ -96,7 +102,7 @@ fn put_chart(out: &mut [u8], answer: DayAnswer, temperatures: &[f32], ages: &[u8
 }
 
 fn day_in(
-    out: &mut [u8],
+    out: &mut [u8; LENGTH],
     level: u32,
     limit: u32,
     new: &[f32],
@@ -110,7 +116,7 @@ fn day_in(
 
 // A day on the chart of the third and fourth lists, with the new temperatures and the cloud mask.
 fn day_on(
-    out: &mut [u8],
+    out: &mut [u8; LENGTH],
     new: &[f32; WORDS],
     size: usize,
     clouds: &[u8],
@@ -137,7 +143,7 @@ fn day_on(
 }
 
 // The four lists of a day: new temperatures, clouded cells, old temperatures and ages.
-pub fn day(out: &mut [u8], kinds: &[u8], values: &[u32; WORDS]) -> usize {
+pub fn day(out: &mut [u8; LENGTH], kinds: &[u8], values: &[u32; WORDS]) -> usize {
     let first = lists::part_at(kinds, 2);
     let second = lists::part_at(kinds, first.next);
     let third = lists::part_at(kinds, second.next);

@@ -1,5 +1,6 @@
 // The digit rules of source 000 (section 2) and source 003 (section 5), run against the steps, and the average of source 003, section 6.
 use crate::out;
+use crate::out::LENGTH;
 use step::StepAnswer;
 
 // For each code and each digit what the rule makes of it: a digit, with 4 added where the rule goes on to the digit before, or 8 where there is no
@@ -115,7 +116,7 @@ fn run_rule(level: u32, code: u8) -> u32 {
 }
 
 // The rule of a code against its step, at a level up to 4.
-pub fn rule(out: &mut [u8], level: u32, code: u8) -> usize {
+pub fn rule(out: &mut [u8; LENGTH], level: u32, code: u8) -> usize {
     if 4 < level {
         return 0;
     }
@@ -164,7 +165,7 @@ fn quotient(sum: u32, count: u32) -> u32 {
 }
 
 // The sum of the differences at a level up to 6, over how many steps, and their average.
-pub fn distance(out: &mut [u8], level: u32) -> usize {
+pub fn distance(out: &mut [u8; LENGTH], level: u32) -> usize {
     if 6 < level {
         return 0;
     }

@@ -21,8 +21,8 @@ mod words;
 ghost use Prim.Native.Nat.{_≤_};
 ghost use lib.ListN.{length};
 ghost use Rattle.worked.specs.Judge.{Room, Counted};
-use answers::LENGTH;
 use judge::Score;
+use out::LENGTH;
 
 // The longest input, in bytes; a longer one is refused.
 const INPUT: usize = 262144;
@@ -221,7 +221,7 @@ fn main() {
     let mut input = [0u8; INPUT];
     let n = io::read_full(libc::STDIN_FILENO, &mut input);
     if n == INPUT {
-        print(b"WRONG the input is too long\n");
+        print(b"WRONG the input is too long\n0 of 1\n");
         return;
     }
     print_score(run_all(&input[0..n]));

@@ -2,6 +2,7 @@
 use crate::lists;
 use crate::lists::Part;
 use crate::out;
+use crate::out::LENGTH;
 use crate::out::Style;
 use crate::words::WORDS;
 use fill::FillAnswer;
@@ -49,7 +50,7 @@ pub fn mark_all(cells: &[u32], mask: &mut [u8]) -> bool {
 }
 
 // Puts the marked cells of a mask into a slice, or none.
-fn put_mask(out: &mut [u8], style: Style, mask: &[u8]) -> usize {
+fn put_mask(out: &mut [u8; LENGTH], style: Style, mask: &[u8]) -> usize {
     let mut at = 0;
     for i in 0..mask.len() {
         at = put_byte(out, at, style, mask, i);
@@ -61,7 +62,7 @@ fn put_mask(out: &mut [u8], style: Style, mask: &[u8]) -> usize {
 }
 
 // A cell, where it is marked.
-fn put_marked(out: &mut [u8], at: usize, style: Style, mask: &[u8], cell: u32) -> usize {
+fn put_marked(out: &mut [u8; LENGTH], at: usize, style: Style, mask: &[u8], cell: u32) -> usize {
     if !bitset::is_marked(mask, cell) {
         return at;
     }
@@ -70,7 +71,7 @@ fn put_marked(out: &mut [u8], at: usize, style: Style, mask: &[u8], cell: u32) -
 }
 
 // The marked cells of one byte of a mask.
-fn put_byte(out: &mut [u8], from: usize, style: Style, mask: &[u8], i: usize) -> usize {
+fn put_byte(out: &mut [u8; LENGTH], from: usize, style: Style, mask: &[u8], i: usize) -> usize {
     let mut at = from;
     let first = (i % 65536) as u32 * 8;
     for bit in 0..8 {
@@ -80,7 +81,7 @@ fn put_byte(out: &mut [u8], from: usize, style: Style, mask: &[u8], i: usize) ->
 }
 
 // Whether so many bytes are a mask of a level.
-pub fn mask(out: &mut [u8], level: u32, bytes: u32) -> usize {
+pub fn mask(out: &mut [u8; LENGTH], level: u32, bytes: u32) -> usize {
     let all = [0u8; BYTES];
     if BYTES < bytes as usize {
         return 0;
@@ -91,14 +92,14 @@ pub fn mask(out: &mut [u8], level: u32, bytes: u32) -> usize {
     }
 }
 
-fn put_count(out: &mut [u8], level: u32, mask: &[u8]) -> usize {
+fn put_count(out: &mut [u8; LENGTH], level: u32, mask: &[u8]) -> usize {
     match mask::count(level, mask) {
         CountAnswer::Count(cells) => out::number(out, 0, cells),
         CountAnswer::Refused(n) => out::refused(out, 0, n),
     }
 }
 
-pub fn count(out: &mut [u8], level: u32, part: Part, values: &[u32; WORDS]) -> usize {
+pub fn count(out: &mut [u8; LENGTH], level: u32, part: Part, values: &[u32; WORDS]) -> usize {
     let mut all = [0u8; BYTES];
     let mask = lists::front(&mut all, size_with(level, part.long));
     if !mark_all(lists::cells_in(values, part.from, part.to), mask) {
@@ -107,7 +108,7 @@ pub fn count(out: &mut [u8], level: u32, part: Part, values: &[u32; WORDS]) -> u
     put_count(out, level, mask)
 }
 
-fn put_spread(out: &mut [u8], style: Style, answer: RingsAnswer, made: &[u8]) -> usize {
+fn put_spread(out: &mut [u8; LENGTH], style: Style, answer: RingsAnswer, made: &[u8]) -> usize {
     match answer {
         RingsAnswer::Done => put_mask(out, style, made),
         RingsAnswer::Refused(n) => out::refused(out, 0, n),
@@ -116,7 +117,7 @@ fn put_spread(out: &mut [u8], style: Style, answer: RingsAnswer, made: &[u8]) ->
 
 // A mask grown or shrunk, into a slice and with one for work.
 fn spread_in(
-    out: &mut [u8],
+    out: &mut [u8; LENGTH],
     style: Style,
     grows: bool,
     rings: u32,
@@ -134,7 +135,7 @@ fn spread_in(
 }
 
 pub fn spread(
-    out: &mut [u8],
+    out: &mut [u8; LENGTH],
     style: Style,
     grows: bool,
     part: Part,
@@ -159,14 +160,20 @@ pub fn spread(
     )
 }
 
-fn put_joined(out: &mut [u8], style: Style, one: &[u8], other: &[u8], made: &mut [u8]) -> usize {
+fn put_joined(
+    out: &mut [u8; LENGTH],
+    style: Style,
+    one: &[u8],
+    other: &[u8],
+    made: &mut [u8],
+) -> usize {
     match mask::join(style.level, one, other, made) {
         JoinAnswer::Joined => put_mask(out, style, made),
         JoinAnswer::Refused(n) => out::refused(out, 0, n),
     }
 }
 
-fn put_within(out: &mut [u8], style: Style, one: &[u8], other: &[u8]) -> usize {
+fn put_within(out: &mut [u8; LENGTH], style: Style, one: &[u8], other: &[u8]) -> usize {
     match mask::within(style.level, one, other) {
         WithinAnswer::Within => out::text(out, 0, b"yes"),
         WithinAnswer::Lacks(cell) => {
@@ -179,7 +186,7 @@ fn put_within(out: &mut [u8], style: Style, one: &[u8], other: &[u8]) -> usize {
 
 // Two masks: joined, or the first held against the second.
 pub fn pair(
-    out: &mut [u8],
+    out: &mut [u8; LENGTH],
     style: Style,
     joins: bool,
     kinds: &[u8],
@@ -211,7 +218,7 @@ pub fn pair(
 }
 
 fn put_filled(
-    out: &mut [u8],
+    out: &mut [u8; LENGTH],
     style: Style,
     counts: bool,
     outside: u32,
@@ -231,7 +238,7 @@ fn put_filled(
 
 // A region filled: its cells, or how many they are.
 pub fn fill(
-    out: &mut [u8],
+    out: &mut [u8; LENGTH],
     style: Style,
     counts: bool,
     part: Part,

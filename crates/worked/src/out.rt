@@ -2,6 +2,9 @@
 use crate::address;
 use crate::temperature;
 
+// The bytes of the longest answer.
+pub const LENGTH: usize = 65536;
+
 // A place past every slice: where a piece did not fit, so that no shortened answer is taken for a whole one.
 pub const NO_ROOM: usize = 0x100_0000;
 
@@ -11,7 +14,7 @@ pub struct Style {
     pub addresses: bool,
 }
 
-pub fn text(out: &mut [u8], at: usize, piece: &[u8]) -> usize {
+pub fn text(out: &mut [u8; LENGTH], at: usize, piece: &[u8]) -> usize {
     if piece.len() == 0 {
         return at;
     }
@@ -22,7 +25,7 @@ pub fn text(out: &mut [u8], at: usize, piece: &[u8]) -> usize {
     next
 }
 
-pub fn number(out: &mut [u8], at: usize, n: u32) -> usize {
+pub fn number(out: &mut [u8; LENGTH], at: usize, n: u32) -> usize {
     let next = text::append_decimal(out, at, n as u64);
     if next == at {
         return NO_ROOM;
@@ -36,7 +39,7 @@ fn size_of(n: i32) -> u32 {
 }
 
 // A number, with a minus sign where it is below zero.
-pub fn signed(out: &mut [u8], at: usize, n: i32) -> usize {
+pub fn signed(out: &mut [u8; LENGTH], at: usize, n: i32) -> usize {
     if n < 0 {
         let next = text(out, at, b"-");
         number(out, next, size_of(n))
@@ -53,7 +56,7 @@ fn value_at(values: &[u32], i: usize) -> u32 {
 }
 
 // A character of a form: a value where it is % or ~, or itself.
-fn form_character(out: &mut [u8], at: usize, character: u8, value: u32) -> usize {
+fn form_character(out: &mut [u8; LENGTH], at: usize, character: u8, value: u32) -> usize {
     match character {
         b'%' => number(out, at, value),
         b'~' => temperature::put(out, at, value),
@@ -69,7 +72,7 @@ fn used_after(used: usize, character: u8) -> usize {
 }
 
 // A text with values in it, in order: a number for each %, and a temperature, by its bits, for each ~.
-pub fn form(out: &mut [u8], from: usize, format: &[u8], values: &[u32]) -> usize {
+pub fn form(out: &mut [u8; LENGTH], from: usize, format: &[u8], values: &[u32]) -> usize {
     let mut at = from;
     let mut used = 0;
     for i in 0..format.len() {
@@ -79,12 +82,12 @@ pub fn form(out: &mut [u8], from: usize, format: &[u8], values: &[u32]) -> usize
     at
 }
 
-pub fn refused(out: &mut [u8], at: usize, n: u8) -> usize {
+pub fn refused(out: &mut [u8; LENGTH], at: usize, n: u8) -> usize {
     let next = text(out, at, b"refused ");
     number(out, next, n as u32)
 }
 
-pub fn cell(out: &mut [u8], at: usize, style: Style, n: u32) -> usize {
+pub fn cell(out: &mut [u8; LENGTH], at: usize, style: Style, n: u32) -> usize {
     if style.addresses {
         address::put(out, at, style.level, n)
     } else {
@@ -93,7 +96,7 @@ pub fn cell(out: &mut [u8], at: usize, style: Style, n: u32) -> usize {
 }
 
 // A space, but for the first piece.
-pub fn space(out: &mut [u8], at: usize) -> usize {
+pub fn space(out: &mut [u8; LENGTH], at: usize) -> usize {
     if at == 0 {
         return 0;
     }
@@ -105,7 +108,7 @@ fn wide(n: u8) -> u32 {
 }
 
 // The cells of a list.
-pub fn cells(out: &mut [u8], from: usize, style: Style, list: &[u32]) -> usize {
+pub fn cells(out: &mut [u8; LENGTH], from: usize, style: Style, list: &[u32]) -> usize {
     let mut at = from;
     for i in 0..list.len() {
         let next = space(out, at);
@@ -115,7 +118,7 @@ pub fn cells(out: &mut [u8], from: usize, style: Style, list: &[u32]) -> usize {
 }
 
 // The numbers of a list of bytes.
-pub fn numbers(out: &mut [u8], from: usize, list: &[u8]) -> usize {
+pub fn numbers(out: &mut [u8; LENGTH], from: usize, list: &[u8]) -> usize {
     let mut at = from;
     for i in 0..list.len() {
         let next = space(out, at);

@@ -1,5 +1,6 @@
 // How many cells the cells of a level touch.
 use crate::out;
+use crate::out::LENGTH;
 use touch::ListAnswer;
 
 // 1 where a cell touches so many cells, and else 0.
@@ -27,7 +28,7 @@ fn count_at(level: u32, so_many: u32) -> u32 {
 }
 
 // How many cells of a level up to 5 touch so many cells.
-pub fn tally(out: &mut [u8], level: u32, so_many: u32) -> usize {
+pub fn tally(out: &mut [u8; LENGTH], level: u32, so_many: u32) -> usize {
     if 5 < level {
         return 0;
     }

@@ -2,6 +2,7 @@
 // Between text and float they are the float's bits.
 use crate::decimal;
 use crate::out;
+use crate::out::LENGTH;
 
 // The bits of infinity, one pattern that is no number's, and the bit of the sign.
 pub const INFINITY: u32 = 0x7f80_0000;
@@ -143,7 +144,7 @@ fn digits_for(eighths: u32) -> u32 {
 }
 
 // Eighths, and a sign after them where the float is next to them.
-fn put_eighths(out: &mut [u8], at: usize, n: u32, mark: &[u8]) -> usize {
+fn put_eighths(out: &mut [u8; LENGTH], at: usize, n: u32, mark: &[u8]) -> usize {
     let whole = out::number(out, at, n / 8);
     let point = out::text(out, whole, b".");
     let last = out::number(out, point, digits_for(n % 8));
@@ -151,7 +152,7 @@ fn put_eighths(out: &mut [u8], at: usize, n: u32, mark: &[u8]) -> usize {
 }
 
 // A float that is no whole eighths: one away from some, or one back to them, or any other by its bits.
-fn put_beside(out: &mut [u8], at: usize, size: u32, away: &[u8], back: &[u8]) -> usize {
+fn put_beside(out: &mut [u8; LENGTH], at: usize, size: u32, away: &[u8], back: &[u8]) -> usize {
     let inner = eighths((size % SIGN + SIGN - 1) % SIGN);
     if inner != NO_EIGHTHS {
         return put_eighths(out, at, inner, away);
@@ -164,7 +165,7 @@ fn put_beside(out: &mut [u8], at: usize, size: u32, away: &[u8], back: &[u8]) ->
     out::number(out, next, size)
 }
 
-fn put_size(out: &mut [u8], at: usize, size: u32, away: &[u8], back: &[u8]) -> usize {
+fn put_size(out: &mut [u8; LENGTH], at: usize, size: u32, away: &[u8], back: &[u8]) -> usize {
     let n = eighths(size);
     if n != NO_EIGHTHS {
         return put_eighths(out, at, n, b"");
@@ -176,7 +177,7 @@ fn put_size(out: &mut [u8], at: usize, size: u32, away: &[u8], back: &[u8]) -> u
 }
 
 // Puts a temperature into a slice, by its bits.
-pub fn put(out: &mut [u8], at: usize, bits: u32) -> usize {
+pub fn put(out: &mut [u8; LENGTH], at: usize, bits: u32) -> usize {
     if bits == NO_NUMBER {
         return out::text(out, at, b"nan");
     }
@@ -187,7 +188,7 @@ pub fn put(out: &mut [u8], at: usize, bits: u32) -> usize {
     put_size(out, next, bits - SIGN, b"-", b"+")
 }
 
-pub fn put_all(out: &mut [u8], from: usize, list: &[f32]) -> usize {
+pub fn put_all(out: &mut [u8; LENGTH], from: usize, list: &[f32]) -> usize {
     let mut at = from;
     for i in 0..list.len() {
         let next = out::space(out, at);

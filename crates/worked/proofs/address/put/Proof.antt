@@ -1,13 +1,11 @@
--- `address::put` is safe and ends. The invariant: fewer than 15 digits are left, and the slice keeps its length. The measure is the number of digits left. Assumes nothing.
+-- `address::put` is safe and ends. The invariant: fewer than 15 digits are left. The measure is the number of digits left. Assumes nothing.
 use Prim.Native.Nat.{_<_}
-use mathlib.Core.Path.{_≡_}
-use lib.ListN.{length}
 use borrow.Author.Needs.{needs}
 use Rattle.worked.proofs.address.put.Statement.{statement}
 use Rattle.worked.proofs.address.put.Tie as tie
 
 abbrev Inv-loop : tie.InvT-loop
-Inv-loop out₀ from level cell left₀ first at₀ out left at = (left < 15) × (length out ≡ length out₀)
+Inv-loop out₀ from level cell left₀ first at₀ out left at = left < 15
 
 abbrev μ-loop : tie.MeasureT-loop
 μ-loop out₀ from level cell left₀ first at₀ out left at = left
@@ -48,9 +46,6 @@ loop-less c = search needs
 loop-again : tie.Need-loop-again Inv-loop μ-loop
 loop-again c = search needs
 
-same-length : tie.Need-same-length Inv-loop μ-loop
-same-length c = search needs
-
 returns : tie.Need-returns Inv-loop μ-loop
 returns c = search needs
 
@@ -72,5 +67,4 @@ put-spec =
     number-requires-2
     loop-less
     loop-again
-    same-length
     returns)

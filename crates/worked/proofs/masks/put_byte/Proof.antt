@@ -1,13 +1,11 @@
--- `masks::put_byte` is safe and ends. The invariant: `bit` is at most 8, and the slice that is written to keeps its length. The measure is what is left of the bits. Assumes nothing.
+-- `masks::put_byte` is safe and ends. The invariant: `bit` is at most 8. The measure is what is left of the bits. Assumes nothing.
 use Prim.Native.Nat.{_≤_, _-_}
-use mathlib.Core.Path.{_≡_}
-use lib.ListN.{length}
 use borrow.Author.Needs.{needs}
 use Rattle.worked.proofs.masks.put_byte.Statement.{statement}
 use Rattle.worked.proofs.masks.put_byte.Tie as tie
 
 abbrev Inv-loop : tie.InvT-loop
-Inv-loop out₀ from style mask i at₀ first bit₀ out at bit = (bit ≤ 8) × (length out ≡ length out₀)
+Inv-loop out₀ from style mask i at₀ first bit₀ out at bit = bit ≤ 8
 
 abbrev μ-loop : tie.MeasureT-loop
 μ-loop out₀ from style mask i at₀ first bit₀ out at bit = 8 - bit
@@ -36,9 +34,6 @@ loop-less c = search needs
 loop-again : tie.Need-loop-again Inv-loop μ-loop
 loop-again c = search needs
 
-same-length : tie.Need-same-length Inv-loop μ-loop
-same-length c = search needs
-
 returns : tie.Need-returns Inv-loop μ-loop
 returns c = search needs
 
@@ -56,5 +51,4 @@ put-byte-spec =
     add-bit
     loop-less
     loop-again
-    same-length
     returns)

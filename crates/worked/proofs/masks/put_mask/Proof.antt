@@ -1,13 +1,11 @@
--- `masks::put_mask` is safe and ends. The invariant: `i` is at most the length of the mask, and the slice that is written to keeps its length. The measure is what is left of the mask. Assumes nothing.
+-- `masks::put_mask` is safe and ends. The invariant: `i` is at most the length of the mask. The measure is what is left of the mask. Assumes nothing.
 use Prim.Native.Nat.{_≤_, _-_}
-use mathlib.Core.Path.{_≡_}
-use lib.ListN.{length}
 use borrow.Author.Needs.{needs}
 use Rattle.worked.proofs.masks.put_mask.Statement.{statement}
 use Rattle.worked.proofs.masks.put_mask.Tie as tie
 
 abbrev Inv-loop : tie.InvT-loop
-Inv-loop out₀ style mask at₀ i₀ t6 i-end out at i = (i ≤ i-end) × (length out ≡ length out₀)
+Inv-loop out₀ style mask at₀ i₀ t6 i-end out at i = i ≤ i-end
 
 abbrev μ-loop : tie.MeasureT-loop
 μ-loop out₀ style mask at₀ i₀ t6 i-end out at i = i-end - i
@@ -33,14 +31,8 @@ slice-aggregate-text c = search needs
 text-requires : tie.Need-text-requires Inv-loop μ-loop
 text-requires c κs = search needs
 
-same-length : tie.Need-same-length Inv-loop μ-loop
-same-length c = search needs
-
 returns : tie.Need-returns Inv-loop μ-loop
 returns c = search needs
-
-same-length-2 : tie.Need-same-length-2 Inv-loop μ-loop
-same-length-2 c = search needs
 
 returns-2 : tie.Need-returns-2 Inv-loop μ-loop
 returns-2 c = search needs
@@ -58,7 +50,5 @@ put-mask-spec =
     loop-again
     slice-aggregate-text
     text-requires
-    same-length
     returns
-    same-length-2
     returns-2)

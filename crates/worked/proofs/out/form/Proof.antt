@@ -1,13 +1,11 @@
--- `out::form` is safe and ends. The invariant: `i` is at most the length of the text, and the slice that is written to keeps its length. The measure is what is left of the text. Assumes nothing.
+-- `out::form` is safe and ends. The invariant: `i` is at most the length of the text. The measure is what is left of the text. Assumes nothing.
 use Prim.Native.Nat.{_≤_, _-_}
-use mathlib.Core.Path.{_≡_}
-use lib.ListN.{length}
 use borrow.Author.Needs.{needs}
 use Rattle.worked.proofs.out.form.Statement.{statement}
 use Rattle.worked.proofs.out.form.Tie as tie
 
 abbrev Inv-loop : tie.InvT-loop
-Inv-loop out₀ from format values at₀ used₀ i₀ i-end out at used i = (i ≤ i-end) × (length out ≡ length out₀)
+Inv-loop out₀ from format values at₀ used₀ i₀ i-end out at used i = i ≤ i-end
 
 abbrev μ-loop : tie.MeasureT-loop
 μ-loop out₀ from format values at₀ used₀ i₀ i-end out at used i = i-end - i
@@ -39,9 +37,6 @@ loop-less c = search needs
 loop-again : tie.Need-loop-again Inv-loop μ-loop
 loop-again c = search needs
 
-same-length : tie.Need-same-length Inv-loop μ-loop
-same-length c = search needs
-
 returns : tie.Need-returns Inv-loop μ-loop
 returns c = search needs
 
@@ -60,5 +55,4 @@ form-spec =
     add-i
     loop-less
     loop-again
-    same-length
     returns)

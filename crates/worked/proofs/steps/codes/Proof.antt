@@ -1,13 +1,11 @@
--- `steps::codes` is safe and ends. The invariant: `i` is 1 or more and, but for an empty list, at most the length, and the slice that is written to keeps its length. The measure is what is left of the list. Assumes nothing.
+-- `steps::codes` is safe and ends. The invariant: `i` is 1 or more and, but for an empty list, at most the length. The measure is what is left of the list. Assumes nothing.
 use Prim.Native.Nat.{_+_, _≤_, _-_}
-use mathlib.Core.Path.{_≡_}
-use lib.ListN.{length}
 use borrow.Author.Needs.{needs}
 use Rattle.worked.proofs.steps.codes.Statement.{statement}
 use Rattle.worked.proofs.steps.codes.Tie as tie
 
 abbrev Inv-loop : tie.InvT-loop
-Inv-loop out₀ level list at₀ i₀ i-end out at i = (1 ≤ i) × (i ≤ i-end + 1) × (length out ≡ length out₀)
+Inv-loop out₀ level list at₀ i₀ i-end out at i = (1 ≤ i) × (i ≤ i-end + 1)
 
 abbrev μ-loop : tie.MeasureT-loop
 μ-loop out₀ level list at₀ i₀ i-end out at i = i-end - i
@@ -45,9 +43,6 @@ loop-less c = search needs
 loop-again : tie.Need-loop-again Inv-loop μ-loop
 loop-again c = search needs
 
-same-length : tie.Need-same-length Inv-loop μ-loop
-same-length c = search needs
-
 returns : tie.Need-returns Inv-loop μ-loop
 returns c = search needs
 
@@ -68,5 +63,4 @@ codes-spec =
     add-i
     loop-less
     loop-again
-    same-length
     returns)

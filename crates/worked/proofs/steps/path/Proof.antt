@@ -1,13 +1,11 @@
--- `steps::path` is safe and ends. The invariant: `i` is at most the length of the list, and the slice that is written to keeps its length. The measure is what is left of the list. Assumes nothing.
+-- `steps::path` is safe and ends. The invariant: `i` is at most the length of the list. The measure is what is left of the list. Assumes nothing.
 use Prim.Native.Nat.{_≤_, _-_}
-use mathlib.Core.Path.{_≡_}
-use lib.ListN.{length}
 use borrow.Author.Needs.{needs}
 use Rattle.worked.proofs.steps.path.Statement.{statement}
 use Rattle.worked.proofs.steps.path.Tie as tie
 
 abbrev Inv-loop : tie.InvT-loop
-Inv-loop out₀ style start list at₀ cell₀ i₀ i-end out at cell i = (i ≤ i-end) × (length out ≡ length out₀)
+Inv-loop out₀ style start list at₀ cell₀ i₀ i-end out at cell i = i ≤ i-end
 
 abbrev μ-loop : tie.MeasureT-loop
 μ-loop out₀ style start list at₀ cell₀ i₀ i-end out at cell i = i-end - i
@@ -42,9 +40,6 @@ enum-known-n c = search needs
 refused-requires : tie.Need-refused-requires Inv-loop μ-loop
 refused-requires c κs = search needs
 
-same-length : tie.Need-same-length Inv-loop μ-loop
-same-length c = search needs
-
 returns : tie.Need-returns Inv-loop μ-loop
 returns c = search needs
 
@@ -56,9 +51,6 @@ loop-less c = search needs
 
 loop-again : tie.Need-loop-again Inv-loop μ-loop
 loop-again c = search needs
-
-same-length-2 : tie.Need-same-length-2 Inv-loop μ-loop
-same-length-2 c = search needs
 
 returns-2 : tie.Need-returns-2 Inv-loop μ-loop
 returns-2 c = search needs
@@ -79,10 +71,8 @@ path-spec =
     cell-requires
     enum-known-n
     refused-requires
-    same-length
     returns
     add-i
     loop-less
     loop-again
-    same-length-2
     returns-2)
