@@ -10,3 +10,4 @@ pub mod Accepts
 pub mod Steps
 pub mod Growings
 pub mod Demand3
+pub mod Worked

@@ -1,0 +1,26 @@
+-- `answers::signed` is safe: a size below 2^31 fits, and so does its negative. Assumes nothing.
+use Prim.Native.Nat.{_%_}
+use borrow.Author.Needs.{needs}
+use native.Mathlib.Omega.{arith}
+use mir.Syntax.{w32}
+use mir.ValLaws.{toZ-pos}
+use Rattle.position.proofs.Signed.{minus, minus-fits}
+use Rattle.worked.proofs.answers.signed.Statement.{statement}
+use Rattle.worked.proofs.answers.signed.Tie as tie
+
+cast-size : tie.Need-cast-size
+cast-size c = search needs
+
+sub-result : tie.Need-sub-result
+sub-result c =
+    let n = c .before .args .number % 2147483648 in
+    rw (toZ-pos w32 n (omega arith), minus n) (record { sfits = minus-fits n (omega arith) })
+
+returns : tie.Need-returns
+returns c = search needs
+
+returns-2 : tie.Need-returns-2
+returns-2 c = search needs
+
+pub signed-spec : {M : Type 1} → statement M
+signed-spec = tie.close (tie.spec cast-size sub-result returns returns-2)

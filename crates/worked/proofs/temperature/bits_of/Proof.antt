@@ -1,0 +1,28 @@
+-- `temperature::bits_of` is safe: only what is no number differs from itself, and all else has bits. Assumes nothing.
+use mathlib.Core.Path.{_≡_, refl}
+use mathlib.Core.Bool.{true, not}
+use lib.Dec.{T}
+use lib.Ieee as Ieee
+use lib.Ieee.{Float, nan, inf, fin, isNan}
+use Rattle.refusal.proofs.Tests.{clash}
+use borrow.Author.Needs.{needs}
+use Rattle.worked.proofs.temperature.bits_of.Statement.{statement}
+use Rattle.worked.proofs.temperature.bits_of.Tie as tie
+
+equals-itself : (t : Float) → Ieee.eq t t ≡ true → T (not (isNan t))
+unfolding Ieee.eq isNan
+equals-itself nan e = clash e refl
+equals-itself (inf s) e = tt
+equals-itself (fin s m d) e = tt
+
+float-to-bits-result : tie.Need-float-to-bits-result
+float-to-bits-result c = equals-itself _ (c .if1 .taken)
+
+returns : tie.Need-returns
+returns c = search needs
+
+returns-2 : tie.Need-returns-2
+returns-2 c = search needs
+
+pub bits-of-spec : {M : Type 1} → statement M
+bits-of-spec = tie.close (tie.spec float-to-bits-result returns returns-2)

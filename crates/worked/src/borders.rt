@@ -1,0 +1,80 @@
+// Stored borders.
+use crate::lists;
+use crate::out;
+use crate::out::LENGTH;
+use crate::out::Style;
+use crate::words::WORDS;
+use border_reader::BorderAnswer;
+use border_writer::LengthAnswer;
+
+// The cells of the longest border, and one more.
+const CELLS: usize = 4098;
+
+// The bytes of the longest border, and one more.
+const BYTES: usize = 1545;
+
+fn put_border(out: &mut [u8; LENGTH], style: Style, level: u32, cells: &[u32]) -> usize {
+    let next = out::form(out, 0, b"level %:", &[level]);
+    out::cells(
+        out,
+        next,
+        Style {
+            level,
+            addresses: style.addresses,
+        },
+        cells,
+    )
+}
+
+fn read_in(out: &mut [u8; LENGTH], style: Style, bytes: &[u8], cells: &mut [u32]) -> usize {
+    match border_reader::read(bytes, cells) {
+        BorderAnswer::Read(level, count) => {
+            put_border(out, style, level, lists::cells_in(cells, 0, count as usize))
+        }
+        BorderAnswer::Refused(n) => out::refused(out, 0, n),
+    }
+}
+
+// Reads a stored border into a slice of so many cells.
+fn read_bytes(
+    out: &mut [u8; LENGTH],
+    style: Style,
+    room: u32,
+    bytes: &[u8; WORDS],
+    length: usize,
+) -> usize {
+    let mut cells = [0u32; CELLS];
+    if CELLS < room as usize {
+        return 0;
+    }
+    read_in(
+        out,
+        style,
+        lists::bytes_in(bytes, 0, length),
+        lists::front_cells(&mut cells, room as usize),
+    )
+}
+
+pub fn read(out: &mut [u8; LENGTH], style: Style, room: u32, list: &[u32]) -> usize {
+    let mut bytes = [0u8; WORDS];
+    lists::copy_bytes(list, &mut bytes);
+    read_bytes(out, style, room, &bytes, list.len())
+}
+
+fn write_in(out: &mut [u8; LENGTH], level: u32, cells: &[u32], bytes: &mut [u8]) -> usize {
+    match border_writer::write(level, cells, bytes) {
+        LengthAnswer::Written(length) => {
+            out::numbers(out, 0, lists::bytes_in(bytes, 0, length as usize))
+        }
+        LengthAnswer::Refused(n) => out::refused(out, 0, n),
+    }
+}
+
+// Writes a border into a slice of so many bytes.
+pub fn write(out: &mut [u8; LENGTH], room: u32, level: u32, cells: &[u32]) -> usize {
+    let mut bytes = [0u8; BYTES];
+    if BYTES < room as usize {
+        return 0;
+    }
+    write_in(out, level, cells, lists::front(&mut bytes, room as usize))
+}
