@@ -1,14 +1,13 @@
 // Runs cases: reads them from standard input, a line each, makes the library's calls, and prints what they answered beside what was expected.
 // crates/worked/stdin says how a case is written.
-mod address;
 mod answers;
 mod borders;
 mod cells;
 mod charts;
 mod decimal;
 mod digits;
-mod judge;
 mod lists;
+mod marks;
 mod masks;
 mod names;
 mod out;
@@ -18,9 +17,6 @@ mod tally;
 mod temperature;
 mod words;
 
-ghost use Prim.Native.Nat.{_≤_};
-ghost use lib.ListN.{length};
-ghost use Rattle.worked.specs.Judge.{Room, Counted};
 use judge::Score;
 use out::LENGTH;
 
@@ -108,15 +104,9 @@ fn print_judged(right: bool, case: &[u8], answer: &[u8], expected: &[u8]) {
     print(b")\n");
 }
 
-// The score with a case that gave no answer to judge.
-fn missed(score: Score) -> Score
-    requires { ⌜ Room score ⌝ }
-    ensures { λ r. ⌜ Counted score r ⌝ }
-{
-    Score {
-        right: score.right,
-        all: score.all + 1,
-    }
+// The score with a case that gave no answer to judge: it is judged as one that differs.
+fn missed(score: Score) -> Score {
+    judge::judged(score, b"", b"?")
 }
 
 // The answer of a case, so many bytes of a buffer, against the expected one.
@@ -126,10 +116,7 @@ fn judge_answer(
     expected: &[u8],
     buffer: &[u8; LENGTH],
     n: usize,
-) -> Score
-    requires { ⌜ Room score ⌝ }
-    ensures { λ r. ⌜ Counted score r ⌝ }
-{
+) -> Score {
     if n == 0 {
         print_unread(case, b" (cannot be read as a case)\n");
         return missed(score);
@@ -145,10 +132,7 @@ fn judge_answer(
 }
 
 // A case, given its text, the expected answer, and what `list` stands for.
-fn run_case(score: Score, case: &[u8], expected: &[u8], list: &[u8]) -> Score
-    requires { ⌜ Room score ⌝ }
-    ensures { λ r. ⌜ Counted score r ⌝ }
-{
+fn run_case(score: Score, case: &[u8], expected: &[u8], list: &[u8]) -> Score {
     let mut buffer = [0u8; LENGTH];
     let n = answers::answer(&mut buffer, case, list, expected);
     judge_answer(score, case, expected, &buffer, n)
@@ -166,10 +150,7 @@ fn after_space(text: &[u8]) -> &[u8] {
 }
 
 // A line that is to be a case.
-fn run_line(score: Score, line: &[u8], list: &[u8]) -> Score
-    requires { ⌜ Room score ⌝ }
-    ensures { λ r. ⌜ Counted score r ⌝ }
-{
+fn run_line(score: Score, line: &[u8], list: &[u8]) -> Score {
     let equals = bytes::scan::find(line, 0, line.len(), b'=');
     if line.len() <= equals {
         print_unread(line, b" (no answer is expected)\n");
@@ -184,10 +165,7 @@ fn run_line(score: Score, line: &[u8], list: &[u8]) -> Score
 }
 
 // Any line, which begins at a place of the input.
-fn pass_line(score: Score, line: &[u8], input: &[u8], at: usize) -> Score
-    requires { ⌜ Room score ⌝ }
-    ensures { λ r. ⌜ Counted score r ⌝ }
-{
+fn pass_line(score: Score, line: &[u8], input: &[u8], at: usize) -> Score {
     if is_heading(line) {
         print(line);
         print(b"\n");
@@ -197,9 +175,7 @@ fn pass_line(score: Score, line: &[u8], input: &[u8], at: usize) -> Score
 }
 
 // All lines of the input.
-fn run_all(input: &[u8]) -> Score
-    requires { ⌜ length (now input) ≤ 262144 ⌝ }
-{
+fn run_all(input: &[u8]) -> Score {
     let mut score = Score { right: 0, all: 0 };
     let mut at = 0;
     while at < input.len() {

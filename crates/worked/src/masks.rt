@@ -5,12 +5,9 @@ use crate::out;
 use crate::out::LENGTH;
 use crate::out::Style;
 use crate::words::WORDS;
-use fill::FillAnswer;
-use grow::RingsAnswer;
 use mask::CountAnswer;
-use mask::JoinAnswer;
-use mask::MaskAnswer;
 use mask::WithinAnswer;
+use refusal::Outcome;
 
 // The bytes of a mask of level 8, and one more.
 pub const BYTES: usize = 65537;
@@ -87,8 +84,8 @@ pub fn mask(out: &mut [u8; LENGTH], level: u32, bytes: u32) -> usize {
         return 0;
     }
     match mask::is_mask(level, lists::bytes_in(&all, 0, bytes as usize)) {
-        MaskAnswer::Fits => out::text(out, 0, b"yes"),
-        MaskAnswer::Refused(n) => out::refused(out, 0, n),
+        Outcome::Done => out::text(out, 0, b"yes"),
+        Outcome::Refused(n) => out::refused(out, 0, n),
     }
 }
 
@@ -108,10 +105,10 @@ pub fn count(out: &mut [u8; LENGTH], level: u32, part: Part, values: &[u32; WORD
     put_count(out, level, mask)
 }
 
-fn put_spread(out: &mut [u8; LENGTH], style: Style, answer: RingsAnswer, made: &[u8]) -> usize {
+fn put_spread(out: &mut [u8; LENGTH], style: Style, answer: Outcome, made: &[u8]) -> usize {
     match answer {
-        RingsAnswer::Done => put_mask(out, style, made),
-        RingsAnswer::Refused(n) => out::refused(out, 0, n),
+        Outcome::Done => put_mask(out, style, made),
+        Outcome::Refused(n) => out::refused(out, 0, n),
     }
 }
 
@@ -168,8 +165,8 @@ fn put_joined(
     made: &mut [u8],
 ) -> usize {
     match mask::join(style.level, one, other, made) {
-        JoinAnswer::Joined => put_mask(out, style, made),
-        JoinAnswer::Refused(n) => out::refused(out, 0, n),
+        Outcome::Done => put_mask(out, style, made),
+        Outcome::Refused(n) => out::refused(out, 0, n),
     }
 }
 
@@ -226,13 +223,13 @@ fn put_filled(
     made: &mut [u8],
 ) -> usize {
     match fill::fill(style.level, border, outside, made) {
-        FillAnswer::Filled => {
+        Outcome::Done => {
             if counts {
                 return put_count(out, style.level, made);
             }
             put_mask(out, style, made)
         }
-        FillAnswer::Refused(n) => out::refused(out, 0, n),
+        Outcome::Refused(n) => out::refused(out, 0, n),
     }
 }
 

@@ -1,5 +1,5 @@
 // Answers as text, put into a slice piece by piece.
-use crate::address;
+use crate::marks;
 use crate::temperature;
 
 // The bytes of the longest answer.
@@ -89,7 +89,7 @@ pub fn refused(out: &mut [u8; LENGTH], at: usize, n: u8) -> usize {
 
 pub fn cell(out: &mut [u8; LENGTH], at: usize, style: Style, n: u32) -> usize {
     if style.addresses {
-        address::put(out, at, style.level, n)
+        marks::put(out, at, style.level, n)
     } else {
         number(out, at, n)
     }

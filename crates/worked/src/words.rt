@@ -1,6 +1,6 @@
 // The words of a case, read into two lists: their kinds and their values.
-use crate::address;
 use crate::decimal;
+use crate::marks;
 use crate::names;
 use crate::temperature;
 
@@ -70,7 +70,7 @@ fn named(row: u32) -> Word {
 
 // The cell number of an address.
 fn addressed(text: &[u8]) -> Word {
-    if address::is_address(text) {
+    if marks::is_address(text) {
         return whole(address::read(text));
     }
     unreadable()

@@ -1,4 +1,4 @@
--- `run_all` is safe and ends. The invariant: there are at most as many cases as characters passed. The measure is what is left of the input. Assumes nothing.
+-- `run_all` is safe and ends. The measure is what is left of the input. Assumes nothing.
 use Prim.Native.Nat.{_+_, _≤_, _-_}
 use lib.ListN.{length}
 use borrow.Author.Needs.{needs}
@@ -6,7 +6,7 @@ use Rattle.worked.proofs.run_all.Statement.{statement}
 use Rattle.worked.proofs.run_all.Tie as tie
 
 abbrev Inv-loop : tie.InvT-loop
-Inv-loop input score₀ at₀ score at = (at ≤ length input + 1) × (score .right ≤ at) × (score .all ≤ at)
+Inv-loop input score₀ at₀ score at = at ≤ length input + 1
 
 abbrev μ-loop : tie.MeasureT-loop
 μ-loop input score₀ at₀ score at = length input + 1 - at

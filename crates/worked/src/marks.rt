@@ -1,21 +1,6 @@
-// Addresses as the source documents write them: the octant's digit and then one digit a level. In a case an @ stands before them.
-ghost use mathlib.Core.Path.{_≡_};
-ghost use Rattle.worked.specs.Address.{numberFrom};
+// Addresses in cases: an @ stands before the digits.
 use crate::out;
 use crate::out::LENGTH;
-
-// The cell number of an address. The characters 0 to 7 leave their digits when divided by 8.
-pub fn read(address: &[u8]) -> u32
-    ensures { λ r. ⌜ r ≡ numberFrom 0 (now (address .entry)) ⌝ }
-{
-    let mut n: u32 = 0;
-    let mut i: usize = 0;
-    while i < address.len() {
-        n = n % 0x1000_0000 * 4 + (address[i] % 8) as u32;
-        i += 1;
-    }
-    n
-}
 
 // Whether a character may stand at a place of an address.
 fn is_digit(place: usize, character: u8) -> bool {

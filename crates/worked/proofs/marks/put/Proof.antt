@@ -1,8 +1,8 @@
--- `address::put` is safe and ends. The invariant: fewer than 15 digits are left. The measure is the number of digits left. Assumes nothing.
+-- `marks::put` is safe and ends. The invariant: fewer than 15 digits are left. The measure is the number of digits left. Assumes nothing.
 use Prim.Native.Nat.{_<_}
 use borrow.Author.Needs.{needs}
-use Rattle.worked.proofs.address.put.Statement.{statement}
-use Rattle.worked.proofs.address.put.Tie as tie
+use Rattle.worked.proofs.marks.put.Statement.{statement}
+use Rattle.worked.proofs.marks.put.Tie as tie
 
 abbrev Inv-loop : tie.InvT-loop
 Inv-loop out₀ from level cell left₀ first at₀ out left at = left < 15

@@ -7,10 +7,10 @@ use native.Mathlib.Numerals.{add-one}
 use native.Mathlib.Omega.{arith}
 use lib.ListN.{length, getD, drop}
 use lib.Seq.{drop-cons, drop-length}
-use Rattle.worked.specs.Address.{withDigit, numberFrom}
+use Rattle.address.specs.Address.{withDigit, numberFrom}
 use borrow.Author.Needs.{needs}
-use Rattle.worked.proofs.address.read.Statement.{statement}
-use Rattle.worked.proofs.address.read.Tie as tie
+use Rattle.address.proofs.read.Statement.{statement}
+use Rattle.address.proofs.read.Tie as tie
 
 abbrev Inv-loop : tie.InvT-loop
 Inv-loop address n₀ i₀ n i = (i ≤ length address) × (numberFrom n (drop i address) ≡ numberFrom 0 address)

@@ -1,8 +1,8 @@
--- `address::is_address` is safe and ends. The invariant: `i` is at most the length; the measure is what is left of it. Assumes nothing.
+-- `marks::is_address` is safe and ends. The invariant: `i` is at most the length; the measure is what is left of it. Assumes nothing.
 use Prim.Native.Nat.{_≤_, _-_}
 use borrow.Author.Needs.{needs}
-use Rattle.worked.proofs.address.is_address.Statement.{statement}
-use Rattle.worked.proofs.address.is_address.Tie as tie
+use Rattle.worked.proofs.marks.is_address.Statement.{statement}
+use Rattle.worked.proofs.marks.is_address.Tie as tie
 
 abbrev Inv-loop : tie.InvT-loop
 Inv-loop address i₀ i-end i = i ≤ i-end
