@@ -12,7 +12,8 @@ use Rattle.cell.specs.Cell.{Triangle, up, down, span, Place, place, Occurs, cel
 use Rattle.cell.proofs.Laws.{place-occurs}
 use Rattle.code.specs.Step.{across, east, west, codeTo}
 use Rattle.code.proofs.Laws.{Inner, up-t, up-l, up-r, up-e, up-w, down-t, down-l, down-r, down-e, down-w}
-use Rattle.code.specs.Neighbours.{direct, Direct}
+use Rattle.code.specs.Neighbours.{direct}
+use Rattle.code.proofs.Laws.{Direct}
 use Rattle.code.proofs.Laws.{Move, stay, over-T, over-E, over-W, step-move, code-step}
 use Rattle.corner.specs.Corner.{corner, triangleCorners, corners, common, touches}
 use Rattle.corner.proofs.Common.{common-symmetric, shared-common}

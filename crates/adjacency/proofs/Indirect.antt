@@ -12,7 +12,8 @@ use Rattle.refusal.proofs.Tests.{clash}
 use Rattle.cell.specs.Cell.{Place, place, number, cells}
 use Rattle.cell.proofs.Laws.{place-occurs, number-below, place-number, number-place}
 use Rattle.code.specs.Step.{step, codeTo}
-use Rattle.code.specs.Neighbours.{direct, directCode, isDirect, One}
+use Rattle.code.specs.Neighbours.{direct, directCode, isDirect}
+use Rattle.code.proofs.Laws.{One}
 use Rattle.code.proofs.Laws.{three-direct, step-occurs, code-unique, code-step, direct-low}
 use Rattle.corner.specs.Corner.{touches}
 use Rattle.adjacency.specs.Touch.{rising, touching, indirect, CornerCell}

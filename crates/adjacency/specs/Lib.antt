@@ -1,2 +1,2 @@
 pub mod Touch
-pub mod Cube
+pub mod inside

@@ -15,8 +15,8 @@ use Rattle.cell.specs.Cell.{Place, place, number, Occurs, cells, cellTests, bad
 use Rattle.cell.proofs.Laws.{number-place}
 use Rattle.cell.proofs.Answers.{Given, in-range, accepted-with, accepts, given-at}
 use Rattle.code.specs.Step.{step, missing, foundOr, badStep, codeTo, stepCall, codeCall}
-use Rattle.code.specs.Neighbours.{back, One, OneOf, Neighbours}
-use Rattle.code.proofs.Laws.{step-occurs, step-back, code-step, past-seven, one-place, three-direct}
+use Rattle.code.specs.Neighbours.{back, OneOf, Neighbours}
+use Rattle.code.proofs.Laws.{One, step-occurs, step-back, code-step, past-seven, one-place, three-direct}
 
 -- where something is found
 pub is-found : {A : Type 0} (s : Option A) → missing s ≡ false → (x : A) × (s ≡ some x)

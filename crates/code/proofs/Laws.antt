@@ -16,7 +16,30 @@ use Rattle.refusal.proofs.Tests.{clash}
 use Rattle.cell.specs.Cell.{Triangle, up, down, span, Place, place, number, Occurs}
 use Rattle.cell.proofs.Laws.{place-number, number-place}
 use Rattle.code.specs.Step.{across, east, west, less, foundIf, inside, steps, step, leadsTo, firstTrue, codeTo}
-use Rattle.code.specs.Neighbours.{back, direct, Direct, One, Three}
+use Rattle.code.specs.Neighbours.{back, direct}
+
+-- a place has a direct neighbour along one of them
+abbrev pub Direct : ℕ → Place → Place → Type 0
+Direct k p r = (c : ℕ) × (direct c ≡ true) × (step k p c ≡ some r)
+
+-- ---- three direct neighbours, of a place
+
+-- exactly one of two steps exists, and it leads to x
+abbrev pub One : Option Place → Option Place → Place → Type 0
+One s s′ x = ((s ≡ some x) × (s′ ≡ none)) ⊎ ((s ≡ none) × (s′ ≡ some x))
+
+-- one by t or T, one by l or W, one by r or E, all different, and no other
+pub record Three (k : ℕ) (p : Place) : Type 0 where
+  pub top : Place
+  pub left : Place
+  pub right : Place
+  pub by-top : One (step k p 0) (step k p 5) top
+  pub by-left : One (step k p 1) (step k p 7) left
+  pub by-right : One (step k p 2) (step k p 6) right
+  pub top-left : ¬ (top ≡ left)
+  pub left-right : ¬ (left ≡ right)
+  pub right-top : ¬ (right ≡ top)
+  pub only : (r : Place) → Direct k p r → (r ≡ top) ⊎ (r ≡ left) ⊎ (r ≡ right)
 
 -- ---- the table as a relation
 

@@ -18,10 +18,6 @@ back c = getD (0 ∷ 2 ∷ 1 ∷ 4 ∷ 3 ∷ 5 ∷ 7 ∷ 6 ∷ []) c c
 unfoldable pub direct : ℕ → Bool
 direct c = getD (true ∷ true ∷ true ∷ false ∷ false ∷ true ∷ true ∷ true ∷ []) c false
 
--- a place has a direct neighbour along one of them
-abbrev pub Direct : ℕ → Place → Place → Type 0
-Direct k p r = (c : ℕ) × (direct c ≡ true) × (step k p c ≡ some r)
-
 -- whether a code is there and is a direct one
 unfoldable pub directCode : Option ℕ → Bool
 directCode none = false
@@ -31,26 +27,7 @@ directCode (some c) = direct c
 unfoldable pub isDirect : ℕ → ℕ → ℕ → Bool
 isDirect k n m = directCode (codeTo k m (place k n))
 
--- ---- three direct neighbours, of a place
-
--- exactly one of two steps exists, and it leads to x
-abbrev pub One : Option Place → Option Place → Place → Type 0
-One s s′ x = ((s ≡ some x) × (s′ ≡ none)) ⊎ ((s ≡ none) × (s′ ≡ some x))
-
--- one by t or T, one by l or W, one by r or E, all different, and no other
-pub record Three (k : ℕ) (p : Place) : Type 0 where
-  pub top : Place
-  pub left : Place
-  pub right : Place
-  pub by-top : One (step k p 0) (step k p 5) top
-  pub by-left : One (step k p 1) (step k p 7) left
-  pub by-right : One (step k p 2) (step k p 6) right
-  pub top-left : ¬ (top ≡ left)
-  pub left-right : ¬ (left ≡ right)
-  pub right-top : ¬ (right ≡ top)
-  pub only : (r : Place) → Direct k p r → (r ≡ top) ⊎ (r ≡ left) ⊎ (r ≡ right)
-
--- ---- the same of a cell, by the calls
+-- ---- three direct neighbours
 
 -- exactly one of two steps from cell n is given, to cell m, and the other is refused 7
 abbrev pub OneOf : ℕ → ℕ → ℕ → ℕ → ℕ → Type 0

@@ -14,10 +14,10 @@ use lib.Signed.{ltZ}
 use lib.IntN.{ℤ, pos, negsuc, natAbs, _+ℤ_, subℕ}
 use borrow.Author.Tests.{lt-ltb, le-ltb, lt-leb, ne-eqb, leb-false, ltb-true, ltb-false, eqb-true, eqb-false}
 use Rattle.refusal.proofs.Tests.{clash}
-use Rattle.cell.specs.Cell.{Triangle, up, down, Occurs, span, child, children, number, digits, maxLevel}
+use Rattle.cell.specs.Cell.{Place, Triangle, up, down, Occurs, span, child, children, number, digits, maxLevel}
 use Rattle.cell.proofs.Laws.{digit-cases, as-child-child, shifted}
 use Rattle.position.specs.Position.{q, latitudeOut, longitudeOut, beginnings, beginning, fromWest, northOctant, offset, octant}
-use Rattle.position.specs.Position.{scaledT, scaledR, Holds, holder, triangleAt, placeAt, Nested}
+use Rattle.position.specs.Position.{scaledT, scaledR, Holds, holder, triangleAt, placeAt}
 
 -- ---- longitudes
 
@@ -281,6 +281,12 @@ module _ (k p m n : ℕ) (e : n ≡ 2 ^ k) where
   holder-at = rw (row-whole (2 ^ k * p) q (omega arith), row-rest (2 ^ k * p) q (omega arith), mul-assoc (2 ^ k) m (q - p), e)
 
 -- ---- nesting: the cells of a position at all levels
+
+-- a place that is a child of another, as the place of a position at level k + 1 is of its place at level k
+pub record Nested (c d : Place) : Type 0 where
+  pub digit : ℕ
+  pub below : digit < 4
+  pub same : d ≡ (c .0, child (c .1) digit)
 
 -- of what a triangle holds, each point is held by one of its children at twice the scale
 record ChildHolds (Q t r : ℕ) (f : Triangle) : Type 0 where

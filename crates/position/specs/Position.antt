@@ -3,13 +3,12 @@
 use Prim.Native.Nat.{ℕ, _+_, _*_, _-_, _/_, _%_, _^_, _≤_, _<_}
 use mathlib.Core.Bool.{Bool, cond}
 use mathlib.Core.List.{List, [], _∷_}
-use mathlib.Core.Path.{_≡_}
 use lib.Dec.{leb, ltb, eqb}
 use lib.IntN.{ℤ, pos, negsuc, natAbs, negℤ, _+ℤ_}
 use lib.ListN.{getD}
 use Rattle.refusal.specs.Answer.{Answer, given, refused, Test, _when_, inOrder}
 use Rattle.refusal.specs.Tests.{badLevel}
-use Rattle.cell.specs.Cell.{Triangle, up, down, child, Place, number, maxLevel}
+use Rattle.cell.specs.Cell.{Triangle, up, down, Place, number, maxLevel}
 use Rattle.position.specs.declared.CellAnswer.{CellAnswer}
 use Rattle.position.specs.declared.CellAnswer.the-variants as cell-answer
 
@@ -87,12 +86,6 @@ badLongitude x = 3 when longitudeOut x
 -- cell at a position: refused 1, 2, 3
 abbrev pub cellCall : ℕ → ℤ → ℤ → Answer ℕ
 cellCall k y x = inOrder (badLevel maxLevel k ∷ badLatitude y ∷ badLongitude x ∷ []) (number k (placeAt k y x))
-
--- a place that is a child of another, as the place of a position at level k + 1 is of its place at level k
-pub record Nested (c d : Place) : Type 0 where
-  pub digit : ℕ
-  pub below : digit < 4
-  pub same : d ≡ (c .0, child (c .1) digit)
 
 -- what the code's answer says
 abbrev pub saidCell : CellAnswer → Answer ℕ

@@ -3,7 +3,7 @@ ghost use mathlib.Core.Path.{_≡_};
 ghost use mathlib.Core.Bool.{cond};
 ghost use Prim.Native.Nat.{_+_, _-_, _^_, _<_, _≤_};
 ghost use Rattle.cell.specs.Cell.{Occurs, span, triangleOf, placeOf, number, maxLevel};
-ghost use Rattle.adjacency.specs.Cube.{sum, equatorialSides, cubeOf, northernOctant, column, placeIn};
+ghost use Rattle.adjacency.specs.inside.Cube.{sum, equatorialSides, cubeOf, northernOctant, column, placeIn};
 use adjacency::Cube;
 use adjacency::Side;
 use cell::CellNumber;

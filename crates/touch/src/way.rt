@@ -1,7 +1,7 @@
 // The 27 ways from a cube to itself and its neighbours: on each axis 0 towards zero, or across it, 1 none, 2 away from zero.
 ghost use mathlib.Core.Path.{_≡_};
 ghost use Prim.Native.Nat.{_+_, _^_, _<_, _≤_};
-ghost use Rattle.adjacency.specs.Cube.{moved, movedCube, taken, sumsFit, touchingWay};
+ghost use Rattle.adjacency.specs.inside.Cube.{moved, movedCube, taken, sumsFit, touchingWay};
 use adjacency::Cube;
 use adjacency::Side;
 

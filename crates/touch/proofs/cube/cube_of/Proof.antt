@@ -8,7 +8,7 @@ use borrow.Author.Needs.{needs}
 use Rattle.cell.specs.Cell.{span, triangleOf}
 use Rattle.cell.proofs.Laws.{shifted}
 use Rattle.corner.proofs.Octants.{second-first}
-use Rattle.adjacency.specs.Cube.{sideOf, leftOver, equatorialSides, cubeOf}
+use Rattle.adjacency.specs.inside.Cube.{sideOf, leftOver, equatorialSides, cubeOf}
 use Rattle.adjacency.proofs.Cubes.{row-of, col-of}
 use Rattle.touch.proofs.cube.cube_of.Statement.{statement}
 use Rattle.touch.proofs.cube.cube_of.Tie as tie

@@ -1,6 +1,6 @@
 -- `quarter_of` meets its contract, case by case. Assumes nothing.
 use native.Mathlib.Omega.{arith}
-use Rattle.adjacency.specs.Cube.{northernOctant}
+use Rattle.adjacency.specs.inside.Cube.{northernOctant}
 use Rattle.touch.proofs.cube.northern_octant.Statement.{statement}
 use Rattle.touch.proofs.cube.northern_octant.Tie as tie
 

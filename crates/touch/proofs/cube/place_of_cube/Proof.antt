@@ -3,7 +3,7 @@ use Prim.Native.Nat.{_+_}
 use borrow.Author.Tests.{eq-eqb, ne-eqb}
 use borrow.Author.Needs.{needs}
 use Rattle.cell.specs.Cell.{up, down}
-use Rattle.adjacency.specs.Cube.{sum, placeIn}
+use Rattle.adjacency.specs.inside.Cube.{sum, placeIn}
 use Rattle.touch.proofs.cube.place_of_cube.Statement.{statement}
 use Rattle.touch.proofs.cube.place_of_cube.Tie as tie
 

@@ -2,7 +2,7 @@
 use mathlib.Core.Path.{_∙_}
 use borrow.Author.Tests.{eq-eqb, ne-eqb}
 use borrow.Author.Needs.{needs}
-use Rattle.adjacency.specs.Cube.{touchingWay, least, most}
+use Rattle.adjacency.specs.inside.Cube.{touchingWay, least, most}
 use Rattle.touch.proofs.way.is_touching_way.Statement.{statement}
 use Rattle.touch.proofs.way.is_touching_way.Tie as tie
 

@@ -1,0 +1,2 @@
+-- What the proofs go by.
+pub mod Cube
