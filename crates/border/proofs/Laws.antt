@@ -165,7 +165,7 @@ reads-accepted bs out a e =
       beginning = b .4;
       whole = omega arith;
       zeros = leb-false (8 ^ b .2) (valueOf 256 (drop (b .3) bs)) (t .1 .1 .0);
-      fits = leb-false (length out) (b .2) (t .1 .1 .1 .0);
+      fits = omega (arith, leb-false (length out) _ (t .1 .1 .1 .0));
       walk = w .1;
     }
 

@@ -1,7 +1,7 @@
 -- The laws of triangles, places and numbers, each once over the level k. They are what the crates above cite.
 -- Assumes nothing.
 use Prim.Native.Nat.{ℕ, zero, suc, _+_, _*_, _/_, _%_, _^_, _≤_, _<_}
-use mathlib.Core.Path.{_≡_, refl, sym, ap₂, subst, _∙_}
+use mathlib.Core.Path.{_≡_, refl, sym, ap, ap₂, subst, _∙_}
 use mathlib.Core.Logic.{_↔_}
 use native.Mathlib.Nat.{one-mul, mul-left-comm, pow-suc, pow-zero, one-le-pow}
 use native.Mathlib.Nat.{mod-one, mod-eq-of-lt, div-one, div-add-mod', div-lt-iff-lt-mul, le-div-iff-mul-le, div-div-eq-div-mul}
@@ -113,7 +113,7 @@ triangle-digits (suc k) f h =
     let high : (4 * d + r) / 4 ≡ d = omega (arith, child-known f .small) in
     let low : (4 * d + r) % 4 ≡ r = omega (arith, child-known f .small) in
     let same : triangle k d ≡ asChild f .0 = triangle-digits k (asChild f .0) (child-known f .inside (2 ^ k) (rw two-pow at h)) in
-    rw (high, low, same) (child-known f .again)
+    ap₂ child (ap (triangle k) high ∙ same) low ∙ child-known f .again
 
 -- the digits of the triangle that a number leads to are the number's k lowest
 pub digits-triangle : (k n : ℕ) → digits k (triangle k n) ≡ n % 4 ^ k

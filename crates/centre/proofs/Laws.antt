@@ -85,12 +85,6 @@ m-near n y p d hn hd hw =
     let r = mul-le-mul hw hdw in
     record { top = omega arith; bottom = omega arith }
 
--- a point so near the middle of a triangle lies in it
-near-triangle : (Q t r : ℕ) (f : Triangle) → 0 < Q → Near Q t (3 * row f + thirds f) → Near Q r (3 * col f + thirds f) → HoldsAt Q t r f
-unfolding row col thirds
-near-triangle Q t r (up a b) h u v = omega arith
-near-triangle Q t r (down a b) h u v = omega arith
-
 -- the thirds of a triangle that occurs leave room for one another, and are not 0
 thirds-fit : (n : ℕ) (f : Triangle) → span f ≤ n → (3 * row f + thirds f) + (3 * col f + thirds f) < 3 * n
 unfolding row col thirds span
@@ -101,6 +95,12 @@ thirds-positive : (f : Triangle) → 0 < thirds f
 unfolding thirds
 thirds-positive (up a b) = omega arith
 thirds-positive (down a b) = omega arith
+
+-- a point so near the middle of a triangle lies in it
+near-triangle : (Q t r : ℕ) (f : Triangle) → 0 < Q → Near Q t (3 * row f + thirds f) → Near Q r (3 * col f + thirds f) → HoldsAt Q t r f
+unfolding row col thirds
+near-triangle Q t r (up a b) h u v = omega arith
+near-triangle Q t r (down a b) h u v = omega arith
 
 -- p and m of the centre that lies x thirds of a row and y thirds of a column in, at N = n
 module _ (n x y : ℕ) (hn : 0 < n) (h : x + y < 3 * n) where

@@ -36,13 +36,13 @@ ringTests k m a out work =
 -- grow by m: reads a mask, writes another; the third, lent for working, holds zeros afterwards
 abbrev pub growCall : ℕ → ℕ → List ℕ → List ℕ → List ℕ → Answer (Unit {0}) × (List ℕ × List ℕ)
 growCall k m a out work =
-    lending (inOrder (ringTests k m a out work) done) (out, work)
-    (bytesOf (4 ^ k) (grownCells k m (marked a)), replicate (4 ^ k) 0)
+    lending (inOrder (ringTests k m a out work) done)
+    (out, work) (bytesOf (4 ^ k) (grownCells k m (marked a)), replicate (4 ^ k) 0)
 
 -- shrink by m: the same with the cells from which every cell within m touching steps is marked
 abbrev pub shrinkCall : ℕ → ℕ → List ℕ → List ℕ → List ℕ → Answer (Unit {0}) × (List ℕ × List ℕ)
 shrinkCall k m a out work =
-    lending (inOrder (ringTests k m a out work) done) (out, work)
-    (bytesOf (4 ^ k) (shrunkCells k m (marked a)), replicate (4 ^ k) 0)
+    lending (inOrder (ringTests k m a out work) done)
+    (out, work) (bytesOf (4 ^ k) (shrunkCells k m (marked a)), replicate (4 ^ k) 0)
 
 -- what the code's answers say

@@ -61,9 +61,7 @@ steps k o (down a b) =
     ∷ inside k o (some (up a (b + 1)))
     ∷ inside k o (some (down a (b + 1)))
     ∷ inside k o (less b (λ b′. down a b′))
-    ∷ none
-    ∷ none
-    ∷ none
+    ∷ none ∷ none ∷ none
     ∷ []
 
 -- the step along a code; there is none along a code above 7
