@@ -10,9 +10,10 @@ ghost use Rattle.rows.specs.Rows.{lit, inside};
 ghost use Rattle.stencil.specs.Stencil.{inRows};
 ghost use Rattle.spread.specs.Spread.{Points};
 ghost use Rattle.grow.specs.Grow.{grownCells};
+use rows::Rows;
 
 // One ring: the points that share a cell with a point. `within` has the level's points.
-fn ring(level: u32, points: &[u64; 10330], within: &[u64; 10330], next: &mut [u64; 10330])
+fn ring(level: u32, points: &Rows, within: &Rows, next: &mut Rows)
     requires { ⌜ (level ≤ maxMaskLevel) × ((i : ℕ) → lit (now within) i ≡ inside level i) × ((i : ℕ) → inRows i ≡ false → lit (now next) i ≡ false) ⌝ }
     ensures spreads { λ _. ⌜ ((A : ℕ → Bool) → Points level (lit (now (points .entry))) A → Points level (lit (now (next .exit))) (grownCells level 1 A)) ⌝ }
     ensures clear { λ _. ⌜ ((i : ℕ) → inRows i ≡ false → lit (now (next .exit)) i ≡ false) ⌝ }
@@ -23,13 +24,7 @@ fn ring(level: u32, points: &[u64; 10330], within: &[u64; 10330], next: &mut [u6
 
 // As many rings: two at a time, to the other array and back. `within` and `next` are lent for working, so that no more than three arrays are on the
 // stack.
-fn more_rings(
-    level: u32,
-    rings: u32,
-    points: &mut [u64; 10330],
-    within: &mut [u64; 10330],
-    next: &mut [u64; 10330],
-)
+fn more_rings(level: u32, rings: u32, points: &mut Rows, within: &mut Rows, next: &mut Rows)
     requires { ⌜ (level ≤ maxMaskLevel) × ((i : ℕ) → inRows i ≡ false → lit (now points) i ≡ false) × ((i : ℕ) → inRows i ≡ false → lit (now next) i ≡ false) ⌝ }
     ensures { λ _. ⌜ ((A : ℕ → Bool) → Points level (lit (now (points .entry))) A → Points level (lit (now (points .exit))) (grownCells level rings A)) ⌝ }
 {
@@ -54,9 +49,9 @@ pub(crate) fn spread(level: u32, rings: u32, mask: &mut [u8])
     if rings == 0 {
         return;
     }
-    let mut up = [0u64; 10330];
-    let mut down = [0u64; 10330];
-    let mut points = [0u64; 10330];
+    let mut up = [0u64; rows::WORDS];
+    let mut down = [0u64; rows::WORDS];
+    let mut points = [0u64; rows::WORDS];
     raster::to_rows(level, mask, &mut up, &mut down);
     stencil::points_of(&up, &down, &mut points);
     seam::join_seams(level, &mut points);

@@ -5,7 +5,7 @@ use borrow.Author.Needs.{needs}
 use native.Mathlib.Omega.{arith}
 use lib.ListN.{replicate}
 use Rattle.bitset.specs.Bits.{marked, bytesOf}
-use Rattle.rows.specs.Rows.{lit}
+use Rattle.rows.specs.Rows.{lit, wordCount}
 use Rattle.rows.proofs.Words.{lit-zeros}
 use Rattle.spread.specs.Spread.{Points}
 use Rattle.spread.proofs.Cells.{past-rows}
@@ -43,9 +43,9 @@ first c =
     let r = in-rows c in
     let a = entry r .args in
     let h = entry r .pre in
-    let zeros = lit (replicate 10330 0) in
+    let zeros = lit (replicate wordCount 0) in
     start (a .level) (h .0) (a .mask .now) (h .1) zeros _ zeros _ zeros _ _
-    (r .to-rows .ensures .0) (r .to-rows .ensures .1) (c .before .before .points-of .ensures) (c .join-seams .ensures) (lit-zeros 10330)
+    (r .to-rows .ensures .0) (r .to-rows .ensures .1) (c .before .before .points-of .ensures) (c .join-seams .ensures) (lit-zeros wordCount)
 
 more-rings-requires : tie.Need-more-rings-requires
 more-rings-requires c κs =
