@@ -21,7 +21,7 @@ use Rattle.stencil.specs.Stencil.{pointsOf, nearOf, upOf, downOf, inRows, inCel
 use Rattle.spread.specs.Spread.{Points}
 use Rattle.spread.proofs.Cells.{corners-of, past-rows}
 use Rattle.spread.proofs.Spread.{points-joined, corners-near, cells-grown, points-cong}
-use Rattle.grow.specs.Grow.{grownCells}
+use Rattle.dilate.specs.Dilate.{grownCells}
 
 -- a set that is said past a test that holds
 pub past-test : (t : Bool) (P Q R : ℕ → Bool) → t ≡ true → ((i : ℕ) → P i ≡ cond t (Q i) (R i)) → (i : ℕ) → P i ≡ Q i
@@ -63,7 +63,7 @@ module _ (k : ℕ) (h : k ≤ 8) where
   -- ---- the start: a mask's cells in rows, their points, joined
 
   module _ (a : List ℕ) (l : length a ≡ 4 ^ k) where
-    mask-fits : isMask k a ≡ true
+    pub mask-fits : isMask k a ≡ true
     unfolding isMask
     mask-fits = both (leb k 8) (eqb (length a) (4 ^ k)) (le-leb k 8 h) (eq-eqb (length a) (4 ^ k) l)
 

@@ -8,12 +8,12 @@ use native.Mathlib.Omega.{arith}
 use Rattle.rows.specs.Rows.{lit, inside}
 use Rattle.stencil.specs.Stencil.{inRows}
 use Rattle.spread.specs.Spread.{Points}
-use Rattle.grow.specs.Grow.{grownCells}
-use Rattle.grow.proofs.Rings.{past-test, after, no-more, as-many}
+use Rattle.dilate.specs.Dilate.{grownCells}
+use Rattle.dilate.proofs.Rings.{past-test, after, no-more, as-many}
 use borrow.Author.Tests.{le-leb}
 use lib.Dec.{leb}
-use Rattle.grow.proofs.points.more_rings.Statement.{statement}
-use Rattle.grow.proofs.points.more_rings.Tie as tie
+use Rattle.dilate.proofs.more_rings.Statement.{statement}
+use Rattle.dilate.proofs.more_rings.Tie as tie
 
 abbrev Inv-loop : tie.InvT-loop
 Inv-loop level rings points₀ within next₀ left₀ points next left =

@@ -9,7 +9,8 @@ ghost use Rattle.mask.specs.Mask.{maxMaskLevel};
 ghost use Rattle.rows.specs.Rows.{lit, inside};
 ghost use Rattle.stencil.specs.Stencil.{inRows};
 ghost use Rattle.spread.specs.Spread.{Points};
-ghost use Rattle.grow.specs.Grow.{grownCells};
+ghost use Rattle.dilate.specs.Dilate.{grownCells, dilated};
+use refusal::Outcome;
 use rows::Rows;
 
 // One ring: the points that share a cell with a point. `within` has the level's points.
@@ -42,7 +43,7 @@ fn more_rings(level: u32, rings: u32, points: &mut Rows, within: &mut Rows, next
 }
 
 // Grows a mask of a level in place.
-pub(crate) fn spread(level: u32, rings: u32, mask: &mut [u8])
+fn dilate_mask(level: u32, rings: u32, mask: &mut [u8])
     requires { ⌜ (level ≤ maxMaskLevel) × (length (now mask) ≡ 4 ^ level) ⌝ }
     ensures { λ _. ⌜ now (mask .exit) ≡ bytesOf (4 ^ level) (grownCells level rings (marked (now (mask .entry)))) ⌝ }
 {
@@ -58,4 +59,14 @@ pub(crate) fn spread(level: u32, rings: u32, mask: &mut [u8])
     more_rings(level, rings - 1, &mut points, &mut up, &mut down);
     stencil::cells_of(&points, &mut up, &mut down);
     raster::from_rows(level, &up, &down, mask);
+}
+
+// Grows a mask of the level in place: marks the cells at most `rings` touching steps from a marked one. A slice that is no mask of the level stays.
+pub fn dilate(level: u32, rings: u32, mask: &mut [u8])
+    ensures { λ _. ⌜ now (mask .exit) ≡ dilated level rings (now (mask .entry)) ⌝ }
+{
+    match mask::is_mask(level, mask) {
+        Outcome::Done => dilate_mask(level, rings, mask),
+        Outcome::Refused(_) => {}
+    }
 }

@@ -1,4 +1,4 @@
--- `spread` meets its contract: the start, the rings but one, and the last ring with the end. Assumes nothing.
+-- `dilate_mask` meets its contract: the start, the rings but one, and the last ring with the end. Assumes nothing.
 use Prim.Native.Nat.{ℕ, _+_, _-_, _^_}
 use mathlib.Core.Path.{_≡_, ap, _∙_}
 use borrow.Author.Needs.{needs}
@@ -9,10 +9,10 @@ use Rattle.rows.specs.Rows.{lit, wordCount}
 use Rattle.rows.proofs.Words.{lit-zeros}
 use Rattle.spread.specs.Spread.{Points}
 use Rattle.spread.proofs.Cells.{past-rows}
-use Rattle.grow.specs.Grow.{grownCells}
-use Rattle.grow.proofs.Rings.{start, cells-clear, finish, none}
-use Rattle.grow.proofs.points.spread.Statement.{statement}
-use Rattle.grow.proofs.points.spread.Tie as tie
+use Rattle.dilate.specs.Dilate.{grownCells}
+use Rattle.dilate.proofs.Rings.{start, cells-clear, finish, none}
+use Rattle.dilate.proofs.dilate_mask.Statement.{statement}
+use Rattle.dilate.proofs.dilate_mask.Tie as tie
 
 returns : tie.Need-returns
 returns c =
@@ -78,8 +78,8 @@ returns-2 c =
     finish (a .level) (s .pre .0) (a .mask .now) (s .pre .1) A _ (a .rings - 1) _ _ _ _ _ spread (b .cells-of .ensures .0) (b .cells-of .ensures .1) (f .from-rows .ensures)
     ∙ ap (λ (n : ℕ). bytesOf (4 ^ a .level) (grownCells (a .level) n A)) e
 
-pub spread-spec : {M : Type 1} → statement M
-spread-spec =
+pub dilate-mask-spec : {M : Type 1} → statement M
+dilate-mask-spec =
     tie.close
     (tie.spec
     returns

@@ -1,9 +1,9 @@
 -- `ring` meets its contract: what is near the points, joined at the seams. Assumes nothing.
 use borrow.Author.Needs.{needs}
 use Rattle.rows.specs.Rows.{lit}
-use Rattle.grow.proofs.Rings.{ring-clear, ring-spreads}
-use Rattle.grow.proofs.points.ring.Statement.{statement}
-use Rattle.grow.proofs.points.ring.Tie as tie
+use Rattle.dilate.proofs.Rings.{ring-clear, ring-spreads}
+use Rattle.dilate.proofs.ring.Statement.{statement}
+use Rattle.dilate.proofs.ring.Tie as tie
 
 near-requires : tie.Need-near-requires
 near-requires c κs = search needs
