@@ -2,7 +2,7 @@
 ghost use mathlib.Core.Path.{_≡_};
 ghost use mathlib.Core.Bool.{true};
 ghost use Prim.Native.Nat.{_≤_, _<_};
-ghost use lib.ListN.{length};
+ghost use lib.ListN.{length, getD};
 ghost use Rattle.rows.specs.Rows.{lit, wordCount, firstWord, cellsEnd};
 ghost use Rattle.rows.specs.Words.{WordOf};
 ghost use Rattle.flood.specs.Flood.{Within, Added};
@@ -12,13 +12,21 @@ use rows::Rows;
 // How often a word is gone over at most before the next one is.
 const REPEATS: u32 = 64;
 
+// One word. Without the test that `rows::word` makes, a pass over all words is much faster.
+fn word(words: &Rows, at: usize) -> u64
+    requires { ⌜ at < wordCount ⌝ }
+    ensures { λ r. ⌜ r ≡ getD (now (words .entry)) at 0 ⌝ }
+{
+    words[at]
+}
+
 // The down cells in one word that have an up cell for a neighbour: at their own spot, one row on or one place on.
 fn near_down(at: usize, up: &Rows) -> u64
     requires { ⌜ (firstWord ≤ at) × (at < cellsEnd) ⌝ }
     ensures { λ r. ⌜ WordOf r (nearDown (lit (now (up .entry)))) at ⌝ }
 {
-    let here = rows::word(up, at);
-    here | (rows::word(up, at + 5) | rows::one_back(here, rows::word(up, at + 1)))
+    let here = word(up, at);
+    here | (word(up, at + 5) | rows::one_back(here, word(up, at + 1)))
 }
 
 // The up cells in one word that have a down cell for a neighbour: at their own spot, one row back or one place back.
@@ -26,8 +34,8 @@ fn near_up(at: usize, down: &Rows) -> u64
     requires { ⌜ (firstWord ≤ at) × (at < cellsEnd) ⌝ }
     ensures { λ r. ⌜ WordOf r (nearUp (lit (now (down .entry)))) at ⌝ }
 {
-    let here = rows::word(down, at);
-    here | (rows::word(down, at - 5) | rows::one_on(here, rows::word(down, at - 1)))
+    let here = word(down, at);
+    here | (word(down, at - 5) | rows::one_on(here, word(down, at - 1)))
 }
 
 // Sets those bits of a word that are near and open. Answers whether that changed it.
@@ -36,7 +44,7 @@ pub(crate) fn join_word(at: usize, near: u64, opened: &Rows, words: &mut [u64]) 
     ensures { λ r. ⌜ Joined at near (now (opened .entry)) (now (words .entry)) (now (words .exit)) r ⌝ }
 {
     let last = words[at];
-    let joined = last | rows::word(opened, at) & near;
+    let joined = last | word(opened, at) & near;
     if joined == last {
         return false;
     }
@@ -59,8 +67,8 @@ fn settle_word(at: usize, open_up: &Rows, open_down: &Rows, up: &mut Rows, down:
     requires { ⌜ (firstWord ≤ at) × (at < cellsEnd) ⌝ }
     ensures { λ r. ⌜ Turn (Into at) (now (open_up .entry)) (now (open_down .entry)) (now (up .entry)) (now (down .entry)) (now (up .exit)) (now (down .exit)) r ⌝ }
 {
-    if rows::word(up, at) == rows::word(open_up, at) {
-        if rows::word(down, at) == rows::word(open_down, at) {
+    if word(up, at) == word(open_up, at) {
+        if word(down, at) == word(open_down, at) {
             return false;
         }
     }
