@@ -1,7 +1,7 @@
 -- Cells reached in rows of bits, from spot to spot. Filling works so; no contract of `fill` and no demand
 -- cites this file.
 -- Up cells stand in one set of rows and down cells in another, each at the spot of its octant, row and column.
-use Prim.Native.Nat.{ℕ, _+_, _*_, _-_, _/_, _%_, _^_, _≤_, _<_}
+use Prim.Native.Nat.{ℕ, _+_, _-_, _/_, _%_, _^_, _≤_, _<_}
 use mathlib.Core.Path.{_≡_}
 use mathlib.Core.Bool.{Bool, true}
 use mathlib.Core.List.{List}

@@ -4,7 +4,7 @@ use mathlib.Core.Bool.{Bool}
 use mathlib.Core.List.{List, [], _∷_}
 use lib.Dec.{ltb}
 use lib.ListN.{replicate}
-use Rattle.refusal.specs.Answer.{Answer, given, refused, Test, _when_, inOrder, lending, done}
+use Rattle.refusal.specs.Answer.{Answer, Test, _when_, inOrder, lending, done}
 use Rattle.refusal.specs.Tests.{badLevel, badLength}
 use Rattle.bitset.specs.Bits.{marked, bytesOf}
 use Rattle.cell.specs.Cell.{cells}
@@ -42,4 +42,3 @@ shrinkCall k m a out work =
     lending (inOrder (ringTests k m a out work) done)
     (out, work) (bytesOf (4 ^ k) (shrunkCells k m (marked a)), replicate (4 ^ k) 0)
 
--- what the code's answers say

@@ -12,7 +12,7 @@ use lib.ListN.{length, getD, set}
 use Rattle.refusal.proofs.Tests.{same-test, both, parts}
 use lib.Seq.{getD-set-same, getD-set-other}
 use Rattle.bitset.specs.Bits.{bit, marked}
-use Rattle.bitset.proofs.Laws.{bit-zero, bit-past, bit-or, bit-pow, shifted}
+use Rattle.bitset.proofs.Laws.{bit-zero, bit-past, bit-or}
 use Rattle.walk.specs.Reach.{anyBelow}
 use Rattle.rows.specs.Rows.{lit}
 use Rattle.rows.proofs.Words.{bit-mod, bit-shr, shl-high, shl-low, lit-at, lit-join}
