@@ -38,4 +38,3 @@ fillTests k a o out = badLevel maxMaskLevel k ∷ badCell k o ∷ badLength (4 ^
 -- fill: reads a border and an outside cell, and marks in another mask what that cell can't reach; the border is part of it
 abbrev pub fillCall : ℕ → List ℕ → ℕ → List ℕ → Answer (Unit {0}) × List ℕ
 fillCall k a o out = lending (inOrder (fillTests k a o out) done) out (bytesOf (4 ^ k) (unreached k (marked a) o))
-

@@ -41,4 +41,3 @@ abbrev pub shrinkCall : ℕ → ℕ → List ℕ → List ℕ → List ℕ → A
 shrinkCall k m a out work =
     lending (inOrder (ringTests k m a out work) done)
     (out, work) (bytesOf (4 ^ k) (shrunkCells k m (marked a)), replicate (4 ^ k) 0)
-

@@ -68,8 +68,8 @@ pub fn to_rows(level: u32, mask: &[u8], up: &mut Rows, down: &mut Rows)
 {
     match mask::is_mask(level, mask) {
         Outcome::Done => {
-            words::clear(up);
-            words::clear(down);
+            *up = [0u64; rows::WORDS];
+            *down = [0u64; rows::WORDS];
             put_pieces(level, mask, up, down);
         }
         Outcome::Refused(_) => {}

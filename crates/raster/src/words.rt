@@ -3,22 +3,11 @@ ghost use mathlib.Core.Path.{_≡_};
 ghost use mathlib.Core.Bool.{_&&_, _||_};
 ghost use Prim.Native.Nat.{ℕ, _+_, _*_, _/_, _%_, _<_};
 ghost use lib.Dec.{eqb};
-ghost use lib.ListN.{length, replicate};
+ghost use lib.ListN.{length};
 ghost use Rattle.bitset.specs.Bits.{bit};
 ghost use Rattle.rows.specs.Rows.{lit};
 ghost use Rattle.raster.specs.inside.Squares.{byteCount, inSquare};
 use rows::Rows;
-
-// Clears all bits.
-pub(crate) fn clear(words: &mut [u64])
-    ensures { λ _. ⌜ now (words .exit) ≡ replicate (length (now (words .entry))) 0 ⌝ }
-{
-    let mut i = 0;
-    while i < words.len() {
-        words[i] = 0;
-        i += 1;
-    }
-}
 
 // Joins the bits of one byte of a row: byte `slot` of all.
 fn join_byte(words: &mut [u64], slot: u32, byte: u64)
