@@ -9,7 +9,7 @@ use native.Mathlib.Nat.{le-trans}
 use borrow.Author.Tests.{leb-true, leb-false, le-leb, lt-leb, not-true}
 use lib.Dec.{leb}
 use lib.Ieee.{Float, nan}
-use Rattle.refusal.proofs.Tests.{clash, parts}
+use Rattle.refusal.proofs.Tests.{clash, parts, both}
 use Rattle.bitset.specs.Bits.{marked, size}
 use Rattle.chart.specs.Chart.{inRange, fresh, carried, readingOf, temperatureAt, ageAt, gap, maxDays, Gap, readingAt}
 use Rattle.day.specs.Day.{nought, dayOf, dayAt, temperaturesAfter, agesAfter, readsAfter, isFresh, summaryAfter, NothingNew, CarriedOn, NotCarried}
@@ -23,6 +23,38 @@ reads-left n d new clouds temps ages c h =
     ap₂ readingOf (getD-listOf nan n (λ c. dayAt d new clouds temps ages c .0) c h) (getD-listOf 0 n (λ c. dayAt d new clouds temps ages c .1) c h)
 
 -- ---- one cell
+
+-- nothing new, by the test of `dayOf`
+nothing-new : (covered inside : Bool) → ((covered ≡ true) ⊎ (inside ≡ false)) ↔ ((not covered && inside) ≡ false)
+nothing-new true inside = ((λ _. refl), (λ _. inl refl))
+nothing-new false inside = ((λ w. ⊎-elim (λ (e : false ≡ true). clash e refl) (λ (e : inside ≡ false). e) w), (λ e. inr e))
+
+-- a cell is carried on where the day has nothing new for it and it can be
+left-carries : (a b : Bool) (new old : Float) (age : ℕ) (t : Float) (m : ℕ) → a ≡ false → b ≡ true →
+    (inRange old ≡ true) × (old ≡ t) × (age + 1 ≡ m) × (m ≤ maxDays) → readingOf (leaves a b new old age .0) (leaves a b new old age .1) ≡ carried t m
+left-carries a b new old age t m p q (i, s, e, l) = rw (p, q) (carried-reads old (age + 1) t m (e, omega arith, l, s, ap inRange (sym s) ∙ i))
+
+carried-day : (covered : Bool) (new old : Float) (age d : ℕ) (t : Float) (m : ℕ) → d ≤ maxDays →
+    ((covered ≡ true) ⊎ (inRange new ≡ false)) × ((inRange old ≡ true) × (old ≡ t) × (age + 1 ≡ m) × (m ≤ d)) →
+    readingOf (dayOf covered new old age d .0) (dayOf covered new old age d .1) ≡ carried t m
+unfolding dayOf
+carried-day covered new old age d t m l (w, (i, s, e, h)) =
+    left-carries _ _ new old age t m
+    (nothing-new covered (inRange new) .0 w)
+    (both (leb (age + 1) d) (inRange old) (le-leb (age + 1) d (omega arith)) i)
+    (i, s, e, le-trans h l)
+
+inside : (a b : Bool) (new old : Float) (age : ℕ) → (a ≡ true → inRange new ≡ true) → leaves a b new old age .1 ≡ 0 →
+    inRange (leaves a b new old age .0) ≡ true
+inside true b new old age f e = f refl
+inside false true new old age f e = absurd (omega arith)
+inside false false new old age f e = absurd (omega arith)
+
+-- a cell that a day leaves at age 0 has a temperature in range
+pub fresh-inside : (covered : Bool) (new old : Float) (age d : ℕ) → dayOf covered new old age d .1 ≡ 0 → inRange (dayOf covered new old age d .0) ≡ true
+unfolding dayOf
+fresh-inside covered new old age d e =
+    inside (not covered && inRange new) (leb (age + 1) d && inRange old) new old age (λ h. parts (not covered) (inRange new) h .1) e
 
 left-fresh : (a b : Bool) (new old : Float) (age : ℕ) (t : Float) → readingOf (leaves a b new old age .0) (leaves a b new old age .1) ≡ fresh t →
     (a ≡ true) × (new ≡ t)
@@ -63,12 +95,7 @@ one-fails : (x y : Bool) → (x && y) ≡ false → (x ≡ false) ⊎ (y ≡ fal
 one-fails true y e = inr e
 one-fails false y e = inl refl
 
--- nothing new, by the test of `dayOf`
-nothing-new : (covered inside : Bool) → ((covered ≡ true) ⊎ (inside ≡ false)) ↔ ((not covered && inside) ≡ false)
-nothing-new true inside = ((λ _. refl), (λ _. inl refl))
-nothing-new false inside = ((λ w. ⊎-elim (λ (e : false ≡ true). clash e refl) (λ (e : inside ≡ false). e) w), (λ e. inr e))
-
--- and what can't be carried, by its test
+-- what can't be carried, by the test of `dayOf`
 not-carried : (old : Float) (age d : ℕ) → ((d < age + 1) ⊎ (inRange old ≡ false)) ↔ ((leb (age + 1) d && inRange old) ≡ false)
 not-carried old age d = (
   (λ w. ⊎-elim
@@ -90,9 +117,7 @@ day-carried covered new old age d t m l = (
       let r = left-carried (not covered && inRange new) (leb (age + 1) d && inRange old) new old age t m e in
       let p = parts (leb (age + 1) d) (inRange old) (r .1) in
       (nothing-new covered (inRange new) .1 (r .0), (p .1, sym (r .3), sym (r .2), omega (arith, r .2, leb-true (age + 1) d (p .0))))),
-  (λ w.
-      rw (nothing-new covered (inRange new) .0 (w .0), le-leb (age + 1) d (omega arith), w .1 .0)
-      (carried-reads old (age + 1) t m (w .1 .2, omega arith, omega arith, w .1 .1, ap inRange (sym (w .1 .1)) ∙ w .1 .0))),
+  carried-day covered new old age d t m l,
 )
 
 left-gap : (a b : Bool) (new old : Float) (age : ℕ) → a ≡ false → b ≡ false → readingOf (leaves a b new old age .0) (leaves a b new old age .1) ≡ gap

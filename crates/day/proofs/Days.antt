@@ -7,12 +7,11 @@ use native.Mathlib.Numerals.{add-one}
 use native.Mathlib.Omega.{arith}
 use borrow.Author.Count.{below-none, below-more}
 use borrow.Author.Tests.{ne-eqb, eq-eqb, eqb-true}
-use lib.Dec.{leb, ltb, eqb}
+use lib.Dec.{ltb, eqb}
 use lib.Ieee as Ieee
 use lib.Ieee.{Float, nan}
 use lib.ListN.{length, getD, set, length-append, List·getD-append}
 use lib.Seq.{ext-getD, getD-at, getD-set-same, getD-set-other}
-use Rattle.refusal.proofs.Tests.{parts}
 use Rattle.bitset.specs.Bits.{size}
 use Rattle.bitset.proofs.Laws.{size-le}
 use Rattle.chart.specs.Chart.{inRange, Reading, fresh, carried, gap, maxDays, readingOf, temperatureAt, ageAt, readingAt}
@@ -59,18 +58,6 @@ not-second false b e = refl
 -- what two tests leave: the new temperature, the old one carried, or a gap
 abbrev pub leaves : Bool → Bool → Float → Float → ℕ → Float × ℕ
 leaves takes keeps new old age = cond takes (new, 0) (cond keeps (old, age + 1) (nought, 255))
-
-inside : (a b : Bool) (new old : Float) (age : ℕ) → (a ≡ true → inRange new ≡ true) → leaves a b new old age .1 ≡ 0 →
-    inRange (leaves a b new old age .0) ≡ true
-inside true b new old age f e = f refl
-inside false true new old age f e = absurd (omega arith)
-inside false false new old age f e = absurd (omega arith)
-
--- a cell that a day leaves at age 0 has a temperature in range
-pub fresh-inside : (covered : Bool) (new old : Float) (age d : ℕ) → dayOf covered new old age d .1 ≡ 0 → inRange (dayOf covered new old age d .0) ≡ true
-unfolding dayOf
-fresh-inside covered new old age d e =
-    inside (not covered && inRange new) (leb (age + 1) d && inRange old) new old age (λ h. parts (not covered) (inRange new) h .1) e
 
 -- ---- the summary
 

@@ -9,7 +9,8 @@ use lib.Ieee.{Float}
 use lib.ListN.{length, length-set}
 use Rattle.chart.specs.Chart.{inRange, readingOf}
 use Rattle.day.specs.Day.{dayAt, temperaturesAfter, agesAfter, Summary, summaryOf, summaryAfter, summaryIs}
-use Rattle.day.proofs.Days.{Rewritten, none-rewritten, cell-rewritten, all-rewritten, same-cell, fresh-inside, count-le}
+use Rattle.day.proofs.Days.{Rewritten, none-rewritten, cell-rewritten, all-rewritten, same-cell, count-le}
+use Rattle.day.proofs.DayLaws.{fresh-inside}
 use Rattle.day.proofs.rewrite.Statement.{statement}
 use Rattle.day.proofs.rewrite.Tie as tie
 
