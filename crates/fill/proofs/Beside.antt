@@ -15,7 +15,7 @@ use Rattle.code.specs.Step.{across, east, west, codeTo}
 use Rattle.code.specs.Neighbours.{direct, directCode, isDirect}
 use Rattle.code.proofs.Laws.{Inner, up-t, up-l, up-r, up-e, up-w, down-t, down-l, down-r, down-e, down-w}
 use Rattle.code.proofs.Laws.{Move, stay, over-T, over-E, over-W, step-move, move-step, code-step}
-use Rattle.rows.specs.Rows.{spot}
+use Rattle.rows.specs.Rows.{cellsEnd, spot}
 use Rattle.rows.proofs.Spots.{spot-same}
 use Rattle.flood.proofs.Crossing.{size-low}
 use Rattle.flood.specs.Flood.{Beside, down-here, down-back, down-last, up-here, up-on, up-next, Within, Edges, Over, Near}
@@ -169,7 +169,7 @@ module _ (k : ℕ) (low : k ≤ 8) where
       let x = subst (Occurs k) en (place-occurs k n hn) in
       let y = subst (Occurs k) em (place-occurs k m hm) in
       let w = ⊎-elim
-      (λ (v : Within 10320 s i t j). beside-leads (v .0) o a b o′ a′ b′ x y p q)
+      (λ (v : Within cellsEnd s i t j). beside-leads (v .0) o a b o′ a′ b′ x y p q)
       (λ (v : Over k 8 s i t j). edges-lead (v .0) (v .2 .0) (v .1) (v .2 .1) s t i j (v .2 .2) o a b o′ a′ b′ x y p q)
       z in
       move-direct k n m (w .0) hn (w .1) (rw (en, em) (w .2))

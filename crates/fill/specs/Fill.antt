@@ -2,7 +2,7 @@
 use Prim.Native.Nat.{ℕ, _^_}
 use mathlib.Core.Bool.{Bool, _&&_, not}
 use mathlib.Core.List.{List, [], _∷_}
-use Rattle.refusal.specs.Answer.{Answer, given, refused, Test, _when_, inOrder, lending, done}
+use Rattle.refusal.specs.Answer.{Answer, Test, _when_, inOrder, lending, done}
 use Rattle.refusal.specs.Tests.{badLevel, badLength}
 use Rattle.bitset.specs.Bits.{marked, bytesOf, outside}
 use Rattle.cell.specs.Cell.{cells, badCell}
@@ -38,5 +38,3 @@ fillTests k a o out = badLevel maxMaskLevel k ∷ badCell k o ∷ badLength (4 ^
 -- fill: reads a border and an outside cell, and marks in another mask what that cell can't reach; the border is part of it
 abbrev pub fillCall : ℕ → List ℕ → ℕ → List ℕ → Answer (Unit {0}) × List ℕ
 fillCall k a o out = lending (inOrder (fillTests k a o out) done) out (bytesOf (4 ^ k) (unreached k (marked a) o))
-
--- what the code's answers say

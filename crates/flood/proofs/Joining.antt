@@ -19,19 +19,14 @@ use Rattle.cell.specs.declared.Kind.{Kind}
 use Rattle.cell.specs.declared.Kind.the-variants.{Up, Down}
 use Rattle.walk.specs.Reach.{anyBelow}
 use Rattle.walk.proofs.Reach.{any-in, any-out}
-use Rattle.rows.specs.Rows.{lit}
+use Rattle.rows.specs.Rows.{lit, wordCount, firstWord, cellsEnd}
 use Rattle.rows.proofs.Words.{bit-and, lit-set, lit-at}
-use Rattle.stencil.specs.inside.Words.{WordOf}
-use Rattle.stencil.proofs.Shifts.{word-here}
+use Rattle.rows.specs.Words.{WordOf}
 use Rattle.flood.specs.Flood.{litOf, Closed, Within, Beside, down-here, down-back, down-last, up-here, up-on, up-next}
 use Rattle.flood.specs.inside.Turns.{nearDown, nearUp, Joined, Into, More, Turn}
 use Rattle.flood.proofs.Turns.{Among, added-by, turn-join}
 
 -- ---- one word joined
-
--- a word that was read
-pub word-read : {x : ℕ} (s : List ℕ) (w : ℕ) → x ≡ getD s w 0 → WordOf x (lit s) w
-word-read s w e = rw e (word-here s w)
 
 module _ (at near more : ℕ) (opened before : List ℕ) (em : more ≡ getD opened at 0) where
   -- the word that was there, and the one that is stored
@@ -83,7 +78,7 @@ module _ (at near more : ℕ) (opened before : List ℕ) (em : more ≡ getD ope
           none true j p h = clash (any-in 64 fresh j h p) e
           none false j p h = refl
 
-  pub joined-more : at < 10330 → length before ≡ 10330 → last < 2 ^ 64 → more < 2 ^ 64 → near < 2 ^ 64 → (joined ≡ last → ⊥) →
+  pub joined-more : at < wordCount → length before ≡ wordCount → last < 2 ^ 64 → more < 2 ^ 64 → near < 2 ^ 64 → (joined ≡ last → ⊥) →
       Joined at near opened before (set before at joined) true
   joined-more h l hl hm hn n = record {
     bits = joined-bits (omega arith);
@@ -236,14 +231,14 @@ turn-downs {at} {ou = ou} {u = u} {d = d} f = turn-down (IntoOf Down at) ou u
     (λ s t i j m p. (m .1, m .0 .1, near-bit f (m .0 .1) ∙ down-into u d (m .0 .0) (m .1) p))
     (λ j e p. let w = down-from u d j (sym (near-bit f e) ∙ p) in (w .0, w .1, ((w .2, e), refl), w .3))
 
-turn-ups : {at near : ℕ} {ou od u d u′ : List ℕ} {r : Bool} → 10 ≤ at →
+turn-ups : {at near : ℕ} {ou od u d u′ : List ℕ} {r : Bool} → firstWord ≤ at →
     WordOf near (nearUp (lit d)) at → Joined at near ou u u′ r → Turn (IntoOf Up at) ou od u d u′ d r
 turn-ups {at} {od = od} {u = u} {d = d} h f = turn-up (IntoOf Up at) od d
     (λ s t i j m p. (m .1, m .0 .1, near-bit f (m .0 .1) ∙ up-into u d (m .0 .0) (m .1) p))
     (λ j e p. let w = up-from u d j (omega arith) (sym (near-bit f e) ∙ p) in (w .0, w .1, ((w .2, e), refl), w .3))
 
 -- and both
-pub turn-word : {at nd nu : ℕ} {ou od u d u′ d′ : List ℕ} {a b : Bool} → 10 ≤ at →
+pub turn-word : {at nd nu : ℕ} {ou od u d u′ d′ : List ℕ} {a b : Bool} → firstWord ≤ at →
     WordOf nd (nearDown (lit u)) at → Joined at nd od d d′ a → WordOf nu (nearUp (lit d′)) at → Joined at nu ou u u′ b →
     Turn (Into at) ou od u d u′ d′ (a || b)
 turn-word {at} h x f y g = turn-join (λ s t i j m. m .0) (λ s t i j m. m .0) (λ s t i j m. by t m) (turn-downs x f) (turn-ups h y g)
@@ -262,7 +257,7 @@ full-closed at ou od u d eu ed s t i j m p = go t (m .1)
     go Down e o = rw (e, ed) (rw e at o)
 
 -- one word after the other
-pub turn-words : {at : ℕ} {ou od u₀ d₀ u₁ d₁ u₂ d₂ : List ℕ} {a b : Bool} → 10 ≤ at →
+pub turn-words : {at : ℕ} {ou od u₀ d₀ u₁ d₁ u₂ d₂ : List ℕ} {a b : Bool} → firstWord ≤ at →
     Turn (Within at) ou od u₀ d₀ u₁ d₁ a → Turn (Into at) ou od u₁ d₁ u₂ d₂ b → Turn (Within (at + 1)) ou od u₀ d₀ u₂ d₂ (a || b)
 turn-words {at} h = turn-join
     (λ s t i j m. (m .0, m .1, omega (arith, m .2)))
@@ -272,5 +267,5 @@ turn-words {at} h = turn-join
     (λ (l : j / 64 < at). inl (m .0, m .1, l))
     (eq-or-lt-of-le (le-of-suc-le-suc (rw add-one at (m .2)))))
 
-pub into-within : (at : ℕ) → 10 ≤ at → at < 10320 → Among (Into at) (Within 10320)
+pub into-within : (at : ℕ) → firstWord ≤ at → at < cellsEnd → Among (Into at) (Within cellsEnd)
 into-within at h l s t i j m = (m .0, omega (arith, m .1), omega (arith, m .1))

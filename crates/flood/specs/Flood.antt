@@ -1,7 +1,7 @@
 -- Cells reached in rows of bits, from spot to spot. Filling works so; no contract of `fill` and no demand
 -- cites this file.
 -- Up cells stand in one set of rows and down cells in another, each at the spot of its octant, row and column.
-use Prim.Native.Nat.{ℕ, _+_, _*_, _-_, _/_, _%_, _^_, _≤_, _<_}
+use Prim.Native.Nat.{ℕ, _+_, _-_, _/_, _%_, _^_, _≤_, _<_}
 use mathlib.Core.Path.{_≡_}
 use mathlib.Core.Bool.{Bool, true}
 use mathlib.Core.List.{List}
@@ -9,7 +9,7 @@ use mathlib.Core.Logic.{_⊎_}
 use Rattle.cell.specs.declared.Kind.{Kind}
 use Rattle.cell.specs.declared.Kind.the-variants.{Up, Down}
 use Rattle.mask.specs.Mask.{maxMaskLevel}
-use Rattle.rows.specs.Rows.{lit, spot}
+use Rattle.rows.specs.Rows.{lit, firstWord, cellsEnd, rowSpots, spot, east}
 
 -- whether a spot is set, in the rows of up cells or in those of down cells
 abbrev pub litOf : List ℕ → List ℕ → Kind → ℕ → Bool
@@ -22,14 +22,14 @@ litOf u d Down i = lit d i
 pub data Beside : Kind → ℕ → Kind → ℕ → Type 0 where
   down-here : {i j : ℕ} → i ≡ j → Beside Up i Down j
   down-back : {i j : ℕ} → i ≡ j + 1 → Beside Up i Down j
-  down-last : {i j : ℕ} → i ≡ j + 320 → Beside Up i Down j
+  down-last : {i j : ℕ} → i ≡ j + rowSpots → Beside Up i Down j
   up-here : {i j : ℕ} → j ≡ i → Beside Down i Up j
   up-on : {i j : ℕ} → j ≡ i + 1 → Beside Down i Up j
-  up-next : {i j : ℕ} → j ≡ i + 320 → Beside Down i Up j
+  up-next : {i j : ℕ} → j ≡ i + rowSpots → Beside Down i Up j
 
 -- those of them that lead into the words before word w, the first two rows left out
 abbrev pub Within : ℕ → Kind → ℕ → Kind → ℕ → Type 0
-Within w s i t j = Beside s i t j × (10 ≤ j / 64) × (j / 64 < w)
+Within w s i t j = Beside s i t j × (firstWord ≤ j / 64) × (j / 64 < w)
 
 -- steps over an edge: from one of two spots of up cells to the other
 abbrev pub Pair : ℕ → ℕ → Kind → ℕ → Kind → ℕ → Type 0
@@ -38,7 +38,7 @@ Pair p q s i t j = (s ≡ Up) × (t ≡ Up) × (((i ≡ p) × (j ≡ q)) ⊎ ((i
 -- the edge to the east, in row n, and the equator, in column n
 abbrev pub Edges : ℕ → ℕ → ℕ → Kind → ℕ → Kind → ℕ → Type 0
 Edges k o n s i t j =
-    Pair (spot o n (2 ^ k - 1 - n)) (spot (o / 4 * 4 + (o + 1) % 4) n 0) s i t j
+    Pair (spot o n (2 ^ k - 1 - n)) (spot (east o) n 0) s i t j
     ⊎ Pair (spot o 0 n) (spot ((o + 4) % 8) 0 n) s i t j
 
 -- those of an octant in the rows and columns below m, and those of all octants below m
@@ -48,9 +48,9 @@ EdgesOf k o m s i t j = (n : ℕ) × (n < m) × Edges k o n s i t j
 abbrev pub Over : ℕ → ℕ → Kind → ℕ → Kind → ℕ → Type 0
 Over k m s i t j = (o : ℕ) × (o < m) × EdgesOf k o (2 ^ k) s i t j
 
--- all steps at level k: no spot of a cell lies past word 10319
+-- all steps at level k: no cell lies past word `cellsEnd`
 abbrev pub Near : ℕ → Kind → ℕ → Kind → ℕ → Type 0
-Near k s i t j = Within 10320 s i t j ⊎ Over k 8 s i t j
+Near k s i t j = Within cellsEnd s i t j ⊎ Over k 8 s i t j
 
 -- ---- sets of spots
 

@@ -1,47 +1,30 @@
 // Steps over the edges of the octants, cell by cell. Only up cells take them.
-ghost use mathlib.Core.Path.{_≡_};
 ghost use mathlib.Core.List.{List};
 ghost use Prim.Native.Nat.{ℕ, _^_, _≤_, _<_};
 ghost use Rattle.mask.specs.Mask.{maxMaskLevel};
-ghost use Rattle.rows.specs.Rows.{lit, spot};
+ghost use Rattle.rows.specs.Rows.{spotCount};
 ghost use Rattle.flood.specs.Flood.{Pair, Edges, EdgesOf, Over};
 ghost use Rattle.flood.specs.inside.Turns.{One, Turn};
 use crate::words;
+use rows::Rows;
 
 // The number of octants.
 const OCTANTS: u32 = 8;
 
-// The spot of an octant's row and column.
-fn spot_of(octant: u32, row: u32, col: u32) -> u32
-    requires { ⌜ (octant < 8) × (row < 256) × (col < 256) ⌝ }
-    ensures { λ r. ⌜ (r ≡ spot octant row col) × (r < 661120) ⌝ }
-{
-    (258 * octant + row + 2) * 320 + col
-}
-
-// Whether a spot is set.
-fn is_set(words: &[u64; 10330], spot: u32) -> bool
-    requires { ⌜ spot < 661120 ⌝ }
-    ensures { λ r. ⌜ r ≡ lit (now (words .entry)) spot ⌝ }
-{
-    let at = (spot / 64) as usize;
-    (words[at] >> (spot % 64)) % 2 == 1
-}
-
 // Reaches one spot, where it is open and another is reached. Answers whether that changed anything.
-fn reach_one(from: u32, to: u32, open_up: &[u64; 10330], up: &mut [u64; 10330]) -> bool
-    requires { ⌜ (from < 661120) × (to < 661120) ⌝ }
+fn reach_one(from: u32, to: u32, open_up: &Rows, up: &mut Rows) -> bool
+    requires { ⌜ (from < spotCount) × (to < spotCount) ⌝ }
     ensures { λ r. ⌜ ((od d : List ℕ) → Turn (One from to) (now (open_up .entry)) od (now (up .entry)) d (now (up .exit)) d r) ⌝ }
 {
-    if is_set(up, from) {
+    if rows::is_set(up, from) {
         return words::join_word((to / 64) as usize, 1 << (to % 64), open_up, up);
     }
     false
 }
 
 // Reaches each of two spots from the other.
-fn reach_pair(one: u32, other: u32, open_up: &[u64; 10330], up: &mut [u64; 10330]) -> bool
-    requires { ⌜ (one < 661120) × (other < 661120) ⌝ }
+fn reach_pair(one: u32, other: u32, open_up: &Rows, up: &mut Rows) -> bool
+    requires { ⌜ (one < spotCount) × (other < spotCount) ⌝ }
     ensures { λ r. ⌜ ((od d : List ℕ) → Turn (Pair one other) (now (open_up .entry)) od (now (up .entry)) d (now (up .exit)) d r) ⌝ }
 {
     let there = reach_one(one, other, open_up, up);
@@ -50,26 +33,20 @@ fn reach_pair(one: u32, other: u32, open_up: &[u64; 10330], up: &mut [u64; 10330
 }
 
 // Reaches cells over an octant's edge to the east, in row n, and over the equator, in column n.
-fn reach_edges(
-    level: u32,
-    octant: u32,
-    n: u32,
-    open_up: &[u64; 10330],
-    up: &mut [u64; 10330],
-) -> bool
+fn reach_edges(level: u32, octant: u32, n: u32, open_up: &Rows, up: &mut Rows) -> bool
     requires { ⌜ (level ≤ maxMaskLevel) × (octant < 8) × (n < 2 ^ level) ⌝ }
     ensures { λ r. ⌜ ((od d : List ℕ) → Turn (Edges level octant n) (now (open_up .entry)) od (now (up .entry)) d (now (up .exit)) d r) ⌝ }
 {
-    let east_cell = spot_of(octant, n, (1 << level) - 1 - n);
+    let east_cell = rows::spot_of(octant, n, (1 << level) - 1 - n);
     let east = reach_pair(
         east_cell,
-        spot_of(octant / 4 * 4 + (octant + 1) % 4, n, 0),
+        rows::spot_of(rows::east(octant), n, 0),
         open_up,
         up,
     );
     let equator = reach_pair(
-        spot_of(octant, 0, n),
-        spot_of((octant + 4) % 8, 0, n),
+        rows::spot_of(octant, 0, n),
+        rows::spot_of((octant + 4) % 8, 0, n),
         open_up,
         up,
     );
@@ -77,7 +54,7 @@ fn reach_edges(
 }
 
 // Reaches cells over all of an octant's edge to the east and over the equator.
-fn reach_octant(level: u32, octant: u32, open_up: &[u64; 10330], up: &mut [u64; 10330]) -> bool
+fn reach_octant(level: u32, octant: u32, open_up: &Rows, up: &mut Rows) -> bool
     requires { ⌜ (level ≤ maxMaskLevel) × (octant < 8) ⌝ }
     ensures { λ r. ⌜ ((od d : List ℕ) → Turn (EdgesOf level octant (2 ^ level)) (now (open_up .entry)) od (now (up .entry)) d (now (up .exit)) d r) ⌝ }
 {
@@ -91,7 +68,7 @@ fn reach_octant(level: u32, octant: u32, open_up: &[u64; 10330], up: &mut [u64; 
 }
 
 // Reaches cells over the edges of all octants. Answers whether that changed anything.
-pub(crate) fn reach_over(level: u32, open_up: &[u64; 10330], up: &mut [u64; 10330]) -> bool
+pub(crate) fn reach_over(level: u32, open_up: &Rows, up: &mut Rows) -> bool
     requires { ⌜ level ≤ maxMaskLevel ⌝ }
     ensures { λ r. ⌜ ((od d : List ℕ) → Turn (Over level 8) (now (open_up .entry)) od (now (up .entry)) d (now (up .exit)) d r) ⌝ }
 {

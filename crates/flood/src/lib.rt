@@ -3,18 +3,13 @@ ghost use Prim.Native.Nat.{_≤_};
 ghost use Rattle.mask.specs.Mask.{maxMaskLevel};
 ghost use Rattle.flood.specs.Flood.{Near, Flooded};
 ghost use Rattle.flood.specs.inside.Turns.{Turn};
+use rows::Rows;
 
 mod edges;
 mod words;
 
 // One round: over all words, and then over the edges. Answers whether that changed anything.
-fn go_round(
-    level: u32,
-    open_up: &[u64; 10330],
-    open_down: &[u64; 10330],
-    up: &mut [u64; 10330],
-    down: &mut [u64; 10330],
-) -> bool
+fn go_round(level: u32, open_up: &Rows, open_down: &Rows, up: &mut Rows, down: &mut Rows) -> bool
     requires { ⌜ level ≤ maxMaskLevel ⌝ }
     ensures { λ r. ⌜ Turn (Near level) (now (open_up .entry)) (now (open_down .entry)) (now (up .entry)) (now (down .entry)) (now (up .exit)) (now (down .exit)) r ⌝ }
 {
@@ -24,13 +19,7 @@ fn go_round(
 }
 
 // Sets exactly the spots that steps at the level lead to from the spots that are set, through open ones. At a level above 8 nothing is written.
-pub fn flood(
-    level: u32,
-    open_up: &[u64; 10330],
-    open_down: &[u64; 10330],
-    up: &mut [u64; 10330],
-    down: &mut [u64; 10330],
-)
+pub fn flood(level: u32, open_up: &Rows, open_down: &Rows, up: &mut Rows, down: &mut Rows)
     ensures { λ _. ⌜ Flooded level (now (open_up .entry)) (now (open_down .entry)) (now (up .entry)) (now (down .entry)) (now (up .exit)) (now (down .exit)) ⌝ }
 {
     if mask::MAX_MASK_LEVEL < level {

@@ -1,4 +1,3 @@
 pub mod Bytes
 pub mod Shrinking
-pub mod Rings
 pub mod Answers

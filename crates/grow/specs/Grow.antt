@@ -4,17 +4,14 @@ use mathlib.Core.Bool.{Bool}
 use mathlib.Core.List.{List, [], _∷_}
 use lib.Dec.{ltb}
 use lib.ListN.{replicate}
-use Rattle.refusal.specs.Answer.{Answer, given, refused, Test, _when_, inOrder, lending, done}
+use Rattle.refusal.specs.Answer.{Answer, Test, _when_, inOrder, lending, done}
 use Rattle.refusal.specs.Tests.{badLevel, badLength}
 use Rattle.bitset.specs.Bits.{marked, bytesOf}
 use Rattle.cell.specs.Cell.{cells}
 use Rattle.corner.specs.Corner.{touches}
 use Rattle.mask.specs.Mask.{maxMaskLevel}
-use Rattle.walk.specs.Reach.{grown, shrunk}
-
--- cells at most m touching steps from a cell of a set
-abbrev pub grownCells : ℕ → ℕ → (ℕ → Bool) → ℕ → Bool
-grownCells k m A = grown (cells k) (touches k) m A
+use Rattle.walk.specs.Reach.{shrunk}
+pub use Rattle.dilate.specs.Dilate.{grownCells}
 
 -- cells from which every cell within m touching steps is in a set
 abbrev pub shrunkCells : ℕ → ℕ → (ℕ → Bool) → ℕ → Bool
@@ -44,5 +41,3 @@ abbrev pub shrinkCall : ℕ → ℕ → List ℕ → List ℕ → List ℕ → A
 shrinkCall k m a out work =
     lending (inOrder (ringTests k m a out work) done)
     (out, work) (bytesOf (4 ^ k) (shrunkCells k m (marked a)), replicate (4 ^ k) 0)
-
--- what the code's answers say

@@ -9,8 +9,6 @@ ghost use Rattle.mask.specs.Mask.{maxMaskLevel};
 ghost use Rattle.grow.specs.Grow.{grownCells, shrunkCells, ringTests, growCall, shrinkCall};
 use refusal::Outcome;
 
-mod points;
-
 // The most rings of one call.
 pub const MAX_RINGS: u32 = 64;
 
@@ -21,7 +19,7 @@ fn grow_into(level: u32, rings: u32, mask: &[u8], out: &mut [u8], work: &mut [u8
     ensures cleared { λ _. ⌜ now (work .exit) ≡ replicate (4 ^ level) 0 ⌝ }
 {
     bytes::copy(mask, out);
-    points::spread(level, rings, out);
+    dilate::dilate(level, rings, out);
     bitset::clear(work);
 }
 
@@ -33,7 +31,7 @@ fn shrink_into(level: u32, rings: u32, mask: &[u8], out: &mut [u8], work: &mut [
 {
     bytes::copy(mask, out);
     bitset::complement(out);
-    points::spread(level, rings, out);
+    dilate::dilate(level, rings, out);
     bitset::complement(out);
     bitset::clear(work);
 }

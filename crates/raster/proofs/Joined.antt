@@ -12,40 +12,12 @@ use lib.ListN.{length, getD, set}
 use Rattle.refusal.proofs.Tests.{same-test, both, parts}
 use lib.Seq.{getD-set-same, getD-set-other}
 use Rattle.bitset.specs.Bits.{bit, marked}
-use Rattle.bitset.proofs.Laws.{bit-zero, bit-past, bit-or, bit-pow, shifted}
+use Rattle.bitset.proofs.Laws.{bit-zero, bit-past, bit-or}
 use Rattle.walk.specs.Reach.{anyBelow}
 use Rattle.rows.specs.Rows.{lit}
-use Rattle.rows.proofs.Words.{bit-mod, bit-shr, shl-high, shl-low, lit-at, lit-set}
+use Rattle.rows.proofs.Words.{bit-mod, bit-shr, shl-high, shl-low, lit-at, lit-join}
 use Rattle.raster.specs.inside.Squares.{inSquare}
 use Rattle.raster.proofs.Pieces.{more-test}
-
--- one word joined with another
-pub lit-join : (s : List ℕ) (w y i : ℕ) → w < length s → lit (set s w (bitOr (getD s w 0) y)) i ≡ (lit s i || (eqb (i / 64) w && bit y (i % 64)))
-unfolding lit
-lit-join s w y i h = lit-set s w (bitOr (getD s w 0) y) i h ∙ go (eqb (i / 64) w) refl
-  where
-    go : (b : Bool) → eqb (i / 64) w ≡ b → cond b (bit (bitOr (getD s w 0) y) (i % 64)) (lit s i) ≡ (lit s i || (b && bit y (i % 64)))
-    go true e = bit-or (getD s w 0) y (i % 64) ∙ rw (eqb-true (i / 64) w e)
-    go false e = sym (or-false (lit s i))
-
--- one bit
-pub lit-one : (s : List ℕ) (p i : ℕ) → p < 64 * length s →
-    lit (set s (p / 64) (bitOr (getD s (p / 64) 0) (1 * 2 ^ (p % 64) % 2 ^ 64))) i ≡ (lit s i || eqb i p)
-lit-one s p i h =
-    lit-join s (p / 64) (1 * 2 ^ (p % 64) % 2 ^ 64) i (omega arith)
-    ∙ ap (λ (b : Bool). lit s i || b) (ap (λ (n : ℕ). eqb (i / 64) (p / 64) && bit n (i % 64)) (shifted 64 (p % 64) (omega arith))
-    ∙ ap (λ (b : Bool). eqb (i / 64) (p / 64) && b) (bit-pow (p % 64) (i % 64))
-    ∙ same-test (eqb (i / 64) (p / 64) && eqb (p % 64) (i % 64)) (eqb i p) there back)
-  where
-    there : (eqb (i / 64) (p / 64) && eqb (p % 64) (i % 64)) ≡ true → eqb i p ≡ true
-    there e =
-        let q = parts (eqb (i / 64) (p / 64)) (eqb (p % 64) (i % 64)) e in
-        eq-eqb i p (omega (arith, eqb-true (i / 64) (p / 64) (q .0), eqb-true (p % 64) (i % 64) (q .1)))
-
-    back : eqb i p ≡ true → (eqb (i / 64) (p / 64) && eqb (p % 64) (i % 64)) ≡ true
-    back e =
-        let q = eqb-true i p e in
-        both (eqb (i / 64) (p / 64)) (eqb (p % 64) (i % 64)) (eq-eqb (i / 64) (p / 64) (omega arith)) (eq-eqb (p % 64) (i % 64) (omega arith))
 
 -- ---- a byte of a word
 

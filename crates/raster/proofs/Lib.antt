@@ -2,6 +2,4 @@ pub mod Held
 pub mod Pieces
 pub mod Joined
 pub mod Answers
-pub mod Moves
-pub mod Seats
 pub mod Placed

@@ -19,10 +19,11 @@ use Rattle.cell.proofs.Laws.{digit-cases, child-number, triangle-bounds}
 use Rattle.cell.proofs.Answers.{Given}
 use Rattle.walk.specs.Reach.{allBelow}
 use Rattle.walk.proofs.Reach.{any-in, any-out, all-at}
-use Rattle.rows.specs.Rows.{lit, spot, octantAt, rowAt, colAt}
+use Rattle.rows.specs.Rows.{lit, octantRows, spot, octantAt, rowAt, colAt}
 use Rattle.raster.specs.Raster.{cellAt, triangleLit, cellLit}
 use Rattle.raster.specs.inside.Pieces.{piece, Added}
-use Rattle.raster.specs.inside.Squares.{inSquare, quarterOf, seat, kindOf, squares, seatBit, Spread}
+use Rattle.square.specs.Square.{quarterOf, seat, kindOf, squares, seatBit, Scattered}
+use Rattle.raster.specs.inside.Squares.{inSquare}
 use Rattle.raster.proofs.Held.{at-cell, found, triangle-same, kind-same}
 
 -- ---- triangles moved
@@ -124,9 +125,9 @@ module _ (k m B o : ℕ) (t : Kind) (a b : ℕ) (h : k ≤ 8) (e : k ≡ suc (su
       let w = triangle-bounds t a b (2 ^ m) (g .occurs .1) in
       (g .occurs .0, omega arith, omega arith)
 
-  module _ (slot : ℕ) (es : slot ≡ (258 * o + 8 * a + 2) * 40 + b) where
+  module _ (slot : ℕ) (es : slot ≡ (octantRows * o + 8 * a + 2) * 40 + b) where
     -- a square's bits are the block's cells of a kind
-    pub square-is : (v : ℕ) (sq : Kind → Kind → ℕ) → Spread v sq → (s : Kind) (r : ℕ) → ((p : ℕ) → p < 64 → bit r p ≡ bit (sq t s) (quarterOf p)) →
+    pub square-is : (v : ℕ) (sq : Kind → Kind → ℕ) → Scattered v sq → (s : Kind) (r : ℕ) → ((p : ℕ) → p < 64 → bit r p ≡ bit (sq t s) (quarterOf p)) →
         (i : ℕ) → inSquare 8 slot r i ≡ cellAt (triangleOf s) k (piece 64 B (λ c. bit v (c % 64))) i
     unfolding inSquare piece seatBit
     square-is v sq w s r f i = same-test (inSquare 8 slot r i) (cellAt (triangleOf s) k A i) there back
@@ -187,7 +188,7 @@ module _ (k m B o : ℕ) (t : Kind) (a b : ℕ) (h : k ≤ 8) (e : k ≡ suc (su
             (ap (λ (u : ℕ). bit r (8 * x + u)) ey ∙ seated j x y l (d .0) (d .1) (sym (kind-same s (kindOf (seat t j)) (f .0))) refl refl ∙ c .1))
 
     -- so what is joined of it is added
-    pub square-added : (v : ℕ) (sq : Kind → Kind → ℕ) → Spread v sq → (s : Kind) (r : ℕ) → ((p : ℕ) → p < 64 → bit r p ≡ bit (sq t s) (quarterOf p)) →
+    pub square-added : (v : ℕ) (sq : Kind → Kind → ℕ) → Scattered v sq → (s : Kind) (r : ℕ) → ((p : ℕ) → p < 64 → bit r p ≡ bit (sq t s) (quarterOf p)) →
         (q z : List ℕ) → ((i : ℕ) → lit z i ≡ (lit q i || inSquare 8 slot r i)) → Added (triangleOf s) k (piece 64 B (λ c. bit v (c % 64))) q z
     square-added v sq w s r f q z d i = d i ∙ ap (λ (x : Bool). lit q i || x) (square-is v sq w s r f i)
 

@@ -6,24 +6,15 @@ ghost use lib.ListN.{length};
 ghost use Rattle.bitset.specs.Bits.{marked};
 ghost use Rattle.cell.specs.Cell.{Triangle, cells};
 ghost use Rattle.mask.specs.Mask.{maxMaskLevel};
-ghost use Rattle.rows.specs.Rows.{spot};
 ghost use Rattle.raster.specs.Raster.{cellLit};
 ghost use Rattle.raster.specs.inside.Pieces.{piece, Added, Marked};
-use crate::words;
 use cell::CellNumber;
 use cell::Kind;
 use cell::PlaceAnswer;
-
-// The spot of an octant's row and column.
-fn spot_of(octant: u32, row: u32, col: u32) -> u32
-    requires { ⌜ (octant < 8) × (row < 256) × (col < 256) ⌝ }
-    ensures { λ r. ⌜ (r ≡ spot octant row col) × (r < 661120) ⌝ }
-{
-    (258 * octant + row + 2) * 320 + col
-}
+use rows::Rows;
 
 // Sets a cell's spot, in the rows of its kind.
-pub(crate) fn put_cell(level: u32, cell: CellNumber, up: &mut [u64; 10330], down: &mut [u64; 10330])
+pub(crate) fn put_cell(level: u32, cell: CellNumber, up: &mut Rows, down: &mut Rows)
     requires { ⌜ (level ≤ maxMaskLevel) × (cell < cells level) ⌝ }
     ensures ups { λ _. ⌜ Added Triangle.up level (eqb cell) (now (up .entry)) (now (up .exit)) ⌝ }
     ensures downs { λ _. ⌜ Added Triangle.down level (eqb cell) (now (down .entry)) (now (down .exit)) ⌝ }
@@ -31,10 +22,10 @@ pub(crate) fn put_cell(level: u32, cell: CellNumber, up: &mut [u64; 10330], down
     match cell::place_of(level, cell) {
         PlaceAnswer::At(place) => {
             let kind = place.kind;
-            let spot = spot_of(place.octant, place.row, place.col);
+            let spot = rows::spot_of(place.octant, place.row, place.col);
             match kind {
-                Kind::Up => words::set_bit(up, spot),
-                Kind::Down => words::set_bit(down, spot),
+                Kind::Up => rows::set_bit(up, spot),
+                Kind::Down => rows::set_bit(down, spot),
             }
         }
         PlaceAnswer::Refused(_) => {}
@@ -42,22 +33,17 @@ pub(crate) fn put_cell(level: u32, cell: CellNumber, up: &mut [u64; 10330], down
 }
 
 // Whether a cell's spot is set, in the rows of its kind.
-pub(crate) fn is_cell_set(
-    level: u32,
-    cell: CellNumber,
-    up: &[u64; 10330],
-    down: &[u64; 10330],
-) -> bool
+pub(crate) fn is_cell_set(level: u32, cell: CellNumber, up: &Rows, down: &Rows) -> bool
     requires { ⌜ (level ≤ maxMaskLevel) × (cell < cells level) ⌝ }
     ensures { λ r. ⌜ r ≡ cellLit level (now (up .entry)) (now (down .entry)) cell ⌝ }
 {
     match cell::place_of(level, cell) {
         PlaceAnswer::At(place) => {
             let kind = place.kind;
-            let spot = spot_of(place.octant, place.row, place.col);
+            let spot = rows::spot_of(place.octant, place.row, place.col);
             match kind {
-                Kind::Up => words::is_set(up, spot),
-                Kind::Down => words::is_set(down, spot),
+                Kind::Up => rows::is_set(up, spot),
+                Kind::Down => rows::is_set(down, spot),
             }
         }
         PlaceAnswer::Refused(_) => false,
@@ -65,13 +51,7 @@ pub(crate) fn is_cell_set(
 }
 
 // Sets a cell's spot where the cell is marked.
-pub(crate) fn put_marked(
-    level: u32,
-    cell: CellNumber,
-    mask: &[u8],
-    up: &mut [u64; 10330],
-    down: &mut [u64; 10330],
-)
+pub(crate) fn put_marked(level: u32, cell: CellNumber, mask: &[u8], up: &mut Rows, down: &mut Rows)
     requires { ⌜ (level ≤ maxMaskLevel) × (cell < cells level) ⌝ }
     ensures ups { λ _. ⌜ Added Triangle.up level (piece 1 cell (marked (now (mask .entry)))) (now (up .entry)) (now (up .exit)) ⌝ }
     ensures downs { λ _. ⌜ Added Triangle.down level (piece 1 cell (marked (now (mask .entry)))) (now (down .entry)) (now (down .exit)) ⌝ }
@@ -82,13 +62,7 @@ pub(crate) fn put_marked(
 }
 
 // Marks a cell where its spot is set.
-pub(crate) fn take_cell(
-    level: u32,
-    cell: CellNumber,
-    up: &[u64; 10330],
-    down: &[u64; 10330],
-    mask: &mut [u8],
-)
+pub(crate) fn take_cell(level: u32, cell: CellNumber, up: &Rows, down: &Rows, mask: &mut [u8])
     requires { ⌜ (level ≤ maxMaskLevel) × (cell < cells level) × (length (now mask) ≡ 4 ^ level) ⌝ }
     ensures { λ _. ⌜ Marked (piece 1 cell (cellLit level (now (up .entry)) (now (down .entry)))) (now (mask .entry)) (now (mask .exit)) ⌝ }
 {

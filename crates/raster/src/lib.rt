@@ -10,11 +10,11 @@ ghost use Rattle.rows.specs.Rows.{lit};
 ghost use Rattle.raster.specs.Raster.{isMask, cellAt, cellLit};
 ghost use Rattle.raster.specs.inside.Pieces.{pieceSize, pieceCount, piece, Added, Marked};
 use refusal::Outcome;
+use rows::Rows;
 
 mod blocks;
 mod cells;
 mod masks;
-mod squares;
 mod words;
 
 // How many pieces a level's cells are taken in.
@@ -30,7 +30,7 @@ fn piece_count(level: u32) -> u32
 }
 
 // Sets the spots of the marked cells of one piece.
-fn put_piece(level: u32, n: u32, mask: &[u8], up: &mut [u64; 10330], down: &mut [u64; 10330])
+fn put_piece(level: u32, n: u32, mask: &[u8], up: &mut Rows, down: &mut Rows)
     requires { ⌜ (level ≤ maxMaskLevel) × (n < pieceCount level) × (length (now mask) ≡ 4 ^ level) ⌝ }
     ensures ups { λ _. ⌜ Added Triangle.up level (piece (pieceSize level) n (marked (now (mask .entry)))) (now (up .entry)) (now (up .exit)) ⌝ }
     ensures downs { λ _. ⌜ Added Triangle.down level (piece (pieceSize level) n (marked (now (mask .entry)))) (now (down .entry)) (now (down .exit)) ⌝ }
@@ -46,7 +46,7 @@ fn put_piece(level: u32, n: u32, mask: &[u8], up: &mut [u64; 10330], down: &mut 
 }
 
 // Sets the spots of all marked cells.
-fn put_pieces(level: u32, mask: &[u8], up: &mut [u64; 10330], down: &mut [u64; 10330])
+fn put_pieces(level: u32, mask: &[u8], up: &mut Rows, down: &mut Rows)
     requires { ⌜ (level ≤ maxMaskLevel) × (length (now mask) ≡ 4 ^ level) ⌝ }
     ensures ups { λ _. ⌜ Added Triangle.up level (marked (now (mask .entry))) (now (up .entry)) (now (up .exit)) ⌝ }
     ensures downs { λ _. ⌜ Added Triangle.down level (marked (now (mask .entry))) (now (down .entry)) (now (down .exit)) ⌝ }
@@ -60,7 +60,7 @@ fn put_pieces(level: u32, mask: &[u8], up: &mut [u64; 10330], down: &mut [u64; 1
 }
 
 // The cells that a mask of the level marks, each at its spot in the rows of its kind. Where the slice is no mask of the level, nothing is written.
-pub fn to_rows(level: u32, mask: &[u8], up: &mut [u64; 10330], down: &mut [u64; 10330])
+pub fn to_rows(level: u32, mask: &[u8], up: &mut Rows, down: &mut Rows)
     ensures ups { λ _. ⌜ ((i : ℕ) → lit (now (up .exit)) i
         ≡ cond (isMask level (now (mask .entry))) (cellAt Triangle.up level (marked (now (mask .entry))) i) (lit (now (up .entry)) i)) ⌝ }
     ensures downs { λ _. ⌜ ((i : ℕ) → lit (now (down .exit)) i
@@ -68,8 +68,8 @@ pub fn to_rows(level: u32, mask: &[u8], up: &mut [u64; 10330], down: &mut [u64; 
 {
     match mask::is_mask(level, mask) {
         Outcome::Done => {
-            words::clear(up);
-            words::clear(down);
+            *up = [0u64; rows::WORDS];
+            *down = [0u64; rows::WORDS];
             put_pieces(level, mask, up, down);
         }
         Outcome::Refused(_) => {}
@@ -77,7 +77,7 @@ pub fn to_rows(level: u32, mask: &[u8], up: &mut [u64; 10330], down: &mut [u64; 
 }
 
 // Marks the cells of one piece whose spots are set.
-fn take_piece(level: u32, n: u32, up: &[u64; 10330], down: &[u64; 10330], mask: &mut [u8])
+fn take_piece(level: u32, n: u32, up: &Rows, down: &Rows, mask: &mut [u8])
     requires { ⌜ (level ≤ maxMaskLevel) × (n < pieceCount level) × (length (now mask) ≡ 4 ^ level) ⌝ }
     requires { ⌜ ((c : ℕ) → c / pieceSize level ≡ n → marked (now mask) c ≡ false) ⌝ }
     ensures { λ _. ⌜ Marked (piece (pieceSize level) n (cellLit level (now (up .entry)) (now (down .entry)))) (now (mask .entry)) (now (mask .exit)) ⌝ }
@@ -90,7 +90,7 @@ fn take_piece(level: u32, n: u32, up: &[u64; 10330], down: &[u64; 10330], mask: 
 }
 
 // Marks exactly the cells whose spots are set.
-fn take_pieces(level: u32, up: &[u64; 10330], down: &[u64; 10330], mask: &mut [u8])
+fn take_pieces(level: u32, up: &Rows, down: &Rows, mask: &mut [u8])
     requires { ⌜ (level ≤ maxMaskLevel) × (length (now mask) ≡ 4 ^ level) ⌝ }
     ensures { λ _. ⌜ now (mask .exit) ≡ bytesOf (4 ^ level) (cellLit level (now (up .entry)) (now (down .entry))) ⌝ }
 {
@@ -104,7 +104,7 @@ fn take_pieces(level: u32, up: &[u64; 10330], down: &[u64; 10330], mask: &mut [u
 }
 
 // The mask of the level that marks the cells whose spots are set. Where the slice is no mask of the level, nothing is written.
-pub fn from_rows(level: u32, up: &[u64; 10330], down: &[u64; 10330], mask: &mut [u8])
+pub fn from_rows(level: u32, up: &Rows, down: &Rows, mask: &mut [u8])
     ensures { λ _. ⌜ now (mask .exit)
         ≡ cond (isMask level (now (mask .entry))) (bytesOf (4 ^ level) (cellLit level (now (up .entry)) (now (down .entry)))) (now (mask .entry)) ⌝ }
 {

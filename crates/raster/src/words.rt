@@ -1,41 +1,13 @@
-// Bits of rows of words: one, eight of a row, and squares of eight rows of eight.
+// Bits of rows: eight of a row, and squares of eight rows of eight.
 ghost use mathlib.Core.Path.{_≡_};
 ghost use mathlib.Core.Bool.{_&&_, _||_};
 ghost use Prim.Native.Nat.{ℕ, _+_, _*_, _/_, _%_, _<_};
 ghost use lib.Dec.{eqb};
-ghost use lib.ListN.{length, replicate};
+ghost use lib.ListN.{length};
 ghost use Rattle.bitset.specs.Bits.{bit};
 ghost use Rattle.rows.specs.Rows.{lit};
-ghost use Rattle.raster.specs.inside.Squares.{inSquare};
-
-// Clears all bits.
-pub(crate) fn clear(words: &mut [u64])
-    ensures { λ _. ⌜ now (words .exit) ≡ replicate (length (now (words .entry))) 0 ⌝ }
-{
-    let mut i = 0;
-    while i < words.len() {
-        words[i] = 0;
-        i += 1;
-    }
-}
-
-// Sets one bit.
-pub(crate) fn set_bit(words: &mut [u64], spot: u32)
-    requires { ⌜ spot < 64 * length (now words) ⌝ }
-    ensures { λ _. ⌜ ((i : ℕ) → lit (now (words .exit)) i ≡ (lit (now (words .entry)) i || eqb i spot)) ⌝ }
-{
-    let at = (spot / 64) as usize;
-    words[at] = words[at] | (1 << (spot % 64));
-}
-
-// Whether a bit is set.
-pub(crate) fn is_set(words: &[u64; 10330], spot: u32) -> bool
-    requires { ⌜ spot < 661120 ⌝ }
-    ensures { λ r. ⌜ r ≡ lit (now (words .entry)) spot ⌝ }
-{
-    let at = (spot / 64) as usize;
-    (words[at] >> (spot % 64)) % 2 == 1
-}
+ghost use Rattle.raster.specs.inside.Squares.{byteCount, inSquare};
+use rows::Rows;
 
 // Joins the bits of one byte of a row: byte `slot` of all.
 fn join_byte(words: &mut [u64], slot: u32, byte: u64)
@@ -49,7 +21,7 @@ fn join_byte(words: &mut [u64], slot: u32, byte: u64)
 
 // Joins a square, of which byte `slot` is the first row.
 pub(crate) fn join_square(words: &mut [u64], slot: u32, square: u64)
-    requires { ⌜ (slot + 280 < 8 * length (now words)) × (slot < 82640) ⌝ }
+    requires { ⌜ (slot + 280 < 8 * length (now words)) × (slot < byteCount) ⌝ }
     ensures { λ _. ⌜ ((i : ℕ) → lit (now (words .exit)) i ≡ (lit (now (words .entry)) i || inSquare 8 slot square i)) ⌝ }
 {
     let mut x = 0;
@@ -60,8 +32,8 @@ pub(crate) fn join_square(words: &mut [u64], slot: u32, square: u64)
 }
 
 // One byte of a row.
-fn byte_at(words: &[u64; 10330], slot: u32) -> u64
-    requires { ⌜ slot < 82640 ⌝ }
+fn byte_at(words: &Rows, slot: u32) -> u64
+    requires { ⌜ slot < byteCount ⌝ }
     ensures small { λ r. ⌜ r < 256 ⌝ }
     ensures bits { λ r. ⌜ ((j : ℕ) → j < 8 → bit r j ≡ lit (now (words .entry)) (8 * slot + j)) ⌝ }
 {
@@ -70,8 +42,8 @@ fn byte_at(words: &[u64; 10330], slot: u32) -> u64
 }
 
 // A square, of which byte `slot` is the first row.
-pub(crate) fn square_at(words: &[u64; 10330], slot: u32) -> u64
-    requires { ⌜ slot + 280 < 82640 ⌝ }
+pub(crate) fn square_at(words: &Rows, slot: u32) -> u64
+    requires { ⌜ slot + 280 < byteCount ⌝ }
     ensures { λ r. ⌜ ((p : ℕ) → p < 64 → bit r p ≡ lit (now (words .entry)) (8 * (slot + 40 * (p / 8)) + p % 8)) ⌝ }
 {
     let mut square = 0;

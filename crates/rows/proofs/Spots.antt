@@ -1,32 +1,32 @@
 -- Spots and their octants, rows and columns. Assumes nothing.
 use Prim.Native.Nat.{ℕ, _+_, _-_, _^_, _≤_, _<_}
-use mathlib.Core.Path.{_≡_}
-use mathlib.Core.Bool.{true}
+use mathlib.Core.Path.{_≡_, _∙_}
+use mathlib.Core.Bool.{true, and-false}
 use native.Mathlib.Omega.{arith}
 use lib.Pow.{pow-mono}
 use lib.Dec.{leb, ltb}
-use borrow.Author.Tests.{le-leb, lt-ltb, leb-true, ltb-true}
+use borrow.Author.Tests.{le-leb, lt-ltb, le-ltb, leb-true, ltb-true}
 use Rattle.refusal.proofs.Tests.{both, parts}
-use Rattle.rows.specs.Rows.{spot, octantAt, rowAt, colAt, inside}
+use Rattle.rows.specs.Rows.{spotCount, octantRows, rowSpots, spot, spotIn, octantAt, rowAt, colAt, inside}
 
 -- what a spot was made of
-pub spot-octant : (o t r : ℕ) → t < 258 → r < 320 → octantAt (spot o t r) ≡ o
+pub spot-octant : (o t r : ℕ) → t < octantRows → r < rowSpots → octantAt (spot o t r) ≡ o
 spot-octant o t r h l = omega arith
 
-pub spot-row : (o t r : ℕ) → t < 258 → r < 320 → rowAt (spot o t r) ≡ t
+pub spot-row : (o t r : ℕ) → t < octantRows → r < rowSpots → rowAt (spot o t r) ≡ t
 spot-row o t r h l = omega arith
 
-pub spot-col : (o t r : ℕ) → t < 258 → r < 320 → colAt (spot o t r) ≡ r
+pub spot-col : (o t r : ℕ) → t < octantRows → r < rowSpots → colAt (spot o t r) ≡ r
 spot-col o t r h l = omega arith
 
 -- and back
 pub spot-again : (i : ℕ) → 640 ≤ i → spot (octantAt i) (rowAt i) (colAt i) ≡ i
 spot-again i h = omega arith
 
-pub row-below : (i : ℕ) → rowAt i < 258
+pub row-below : (i : ℕ) → rowAt i < octantRows
 row-below i = omega arith
 
-pub col-below : (i : ℕ) → colAt i < 320
+pub col-below : (i : ℕ) → colAt i < rowSpots
 col-below i = omega arith
 
 -- the spot of a point of level k
@@ -43,7 +43,7 @@ inside-is k i e =
     record { octant = ltb-true _ _ (q .0); sum = leb-true _ _ (q .1); again = spot-again i (leb-true 640 i (p .0)) }
 
 -- row and column of a point of a level to 8 are at most 256
-pub small : (k t r : ℕ) → k ≤ 8 → t + r ≤ 2 ^ k → (t < 258) × (r < 320)
+pub small : (k t r : ℕ) → k ≤ 8 → t + r ≤ 2 ^ k → (t < octantRows) × (r < rowSpots)
 small k t r h l = let m : 2 ^ k ≤ 2 ^ 8 = pow-mono {i = k} {j = 8} h in omega arith
 
 pub inside-spot : (k o t r : ℕ) → k ≤ 8 → o < 8 → t + r ≤ 2 ^ k → inside k (spot o t r) ≡ true
@@ -58,9 +58,30 @@ inside-spot k o t r h ho l =
     both _ _ (le-leb 640 (spot o t r) (omega arith)) (both _ _ a b)
 
 -- a spot has one octant, one row and one column
-pub spot-same : (o t r o′ t′ r′ : ℕ) → t < 258 → r < 320 → t′ < 258 → r′ < 320 → spot o t r ≡ spot o′ t′ r′ → (o ≡ o′) × (t ≡ t′) × (r ≡ r′)
+pub spot-same : (o t r o′ t′ r′ : ℕ) → t < octantRows → r < rowSpots → t′ < octantRows → r′ < rowSpots → spot o t r ≡ spot o′ t′ r′ → (o ≡ o′) × (t ≡ t′) × (r ≡ r′)
 spot-same o t r o′ t′ r′ ht hr ht′ hr′ e = omega arith
 
 -- all spots of octants 0 to 7 are in the words
-pub spot-fits : (o t r : ℕ) → o < 8 → t < 258 → r < 320 → spot o t r < 661120
+pub spot-fits : (o t r : ℕ) → o < 8 → t < octantRows → r < rowSpots → spot o t r < spotCount
 spot-fits o t r ho ht hr = omega arith
+
+-- where there is such an octant, row and column, and where one of them is not there
+pub spot-in : (o t r : ℕ) → o < 8 → t < octantRows → r < rowSpots → spotIn o t r ≡ spot o t r
+unfolding spotIn
+spot-in o t r ho ht hr = rw (lt-ltb o 8 ho, lt-ltb t octantRows ht, lt-ltb r rowSpots hr)
+
+pub no-octant : (o t r : ℕ) → 8 ≤ o → spotIn o t r ≡ spotCount
+unfolding spotIn
+no-octant o t r h = rw (le-ltb o 8 h)
+
+pub no-row : (o t r : ℕ) → octantRows ≤ t → spotIn o t r ≡ spotCount
+unfolding spotIn
+no-row o t r h = rw (le-ltb t octantRows h, and-false (ltb o 8))
+
+pub no-col : (o t r : ℕ) → rowSpots ≤ r → spotIn o t r ≡ spotCount
+unfolding spotIn
+no-col o t r h = rw (le-ltb r rowSpots h, and-false (ltb t octantRows), and-false (ltb o 8))
+
+-- a spot that was computed, of an octant, a row and a column that are there
+pub spot-told : {i : ℕ} (o t r : ℕ) → i ≡ spotIn o t r → o < 8 → t < octantRows → r < rowSpots → (i ≡ spot o t r) × (i < spotCount)
+spot-told {i} o t r e ho ht hr = let f : i ≡ spot o t r = e ∙ spot-in o t r ho ht hr in (f, omega arith)

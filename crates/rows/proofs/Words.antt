@@ -1,19 +1,20 @@
 -- Bits of words, as the code shifts, joins and stores them. Assumes nothing.
 use Prim.Native.Nat.{ℕ, zero, suc, _+_, _*_, _-_, _/_, _%_, _^_, _≤_, _<_, min}
 use mathlib.Core.Path.{_≡_, refl, sym, ap, _∙_}
-use mathlib.Core.Bool.{Bool, true, false, cond, _&&_}
+use mathlib.Core.Bool.{Bool, true, false, cond, _&&_, _||_, or-false}
 use mathlib.Core.List.{List}
 use native.Mathlib.Nat.{mul-add-mod-self-right, div-div-eq-div-mul, add-zero, mul-div-cancel}
 use native.Mathlib.Omega.{arith}
-use borrow.Author.Tests.{eqb-true, eqb-false}
-use lib.Bits.{bitAnd, and-step, and-shr}
-use lib.Dec.{eqb}
+use borrow.Author.Tests.{eq-eqb, lt-ltb, le-ltb, eqb-true, eqb-false}
+use lib.Bits.{bitAnd, bitOr, and-step, and-shr}
+use lib.Dec.{ltb, eqb}
 use lib.ListN.{length, getD, set, replicate, List·getD-eq-default}
 use lib.Pow.{pow-add, pow-pos, split}
 use lib.Seq.{getD-set-same, getD-set-other}
 use Rattle.bitset.specs.Bits.{bit}
-use Rattle.bitset.proofs.Laws.{bit-zero, bit-low}
-use Rattle.rows.specs.Rows.{lit}
+use Rattle.bitset.proofs.Laws.{bit-zero, bit-low, bit-or, bit-pow, shifted}
+use Rattle.refusal.proofs.Tests.{same-test, both, parts}
+use Rattle.rows.specs.Rows.{lit, spotCount}
 
 -- ---- numbers
 
@@ -82,3 +83,46 @@ lit-set s w v i h = go (eqb (i / 64) w) refl
     go : (b : Bool) → eqb (i / 64) w ≡ b → bit (getD (set s w v) (i / 64) 0) (i % 64) ≡ cond b (bit v (i % 64)) (bit (getD s (i / 64) 0) (i % 64))
     go true e = rw (eqb-true (i / 64) w e, getD-set-same s w v 0 h)
     go false e = rw (getD-set-other s w (i / 64) v 0 (eqb-false (i / 64) w e))
+
+-- one word joined with another
+pub lit-join : (s : List ℕ) (w y i : ℕ) → w < length s → lit (set s w (bitOr (getD s w 0) y)) i ≡ (lit s i || (eqb (i / 64) w && bit y (i % 64)))
+unfolding lit
+lit-join s w y i h = lit-set s w (bitOr (getD s w 0) y) i h ∙ go (eqb (i / 64) w) refl
+  where
+    go : (b : Bool) → eqb (i / 64) w ≡ b → cond b (bit (bitOr (getD s w 0) y) (i % 64)) (lit s i) ≡ (lit s i || (b && bit y (i % 64)))
+    go true e = bit-or (getD s w 0) y (i % 64) ∙ rw (eqb-true (i / 64) w e)
+    go false e = sym (or-false (lit s i))
+
+-- one bit
+pub lit-one : (s : List ℕ) (p i : ℕ) → p < 64 * length s →
+    lit (set s (p / 64) (bitOr (getD s (p / 64) 0) (1 * 2 ^ (p % 64) % 2 ^ 64))) i ≡ (lit s i || eqb i p)
+lit-one s p i h =
+    lit-join s (p / 64) (1 * 2 ^ (p % 64) % 2 ^ 64) i (omega arith)
+    ∙ ap (λ (b : Bool). lit s i || b) (ap (λ (n : ℕ). eqb (i / 64) (p / 64) && bit n (i % 64)) (shifted 64 (p % 64) (omega arith))
+    ∙ ap (λ (b : Bool). eqb (i / 64) (p / 64) && b) (bit-pow (p % 64) (i % 64))
+    ∙ same-test (eqb (i / 64) (p / 64) && eqb (p % 64) (i % 64)) (eqb i p) there back)
+  where
+    there : (eqb (i / 64) (p / 64) && eqb (p % 64) (i % 64)) ≡ true → eqb i p ≡ true
+    there e =
+        let q = parts (eqb (i / 64) (p / 64)) (eqb (p % 64) (i % 64)) e in
+        eq-eqb i p (omega (arith, eqb-true (i / 64) (p / 64) (q .0), eqb-true (p % 64) (i % 64) (q .1)))
+
+    back : eqb i p ≡ true → (eqb (i / 64) (p / 64) && eqb (p % 64) (i % 64)) ≡ true
+    back e =
+        let q = eqb-true i p e in
+        both (eqb (i / 64) (p / 64)) (eqb (p % 64) (i % 64)) (eq-eqb (i / 64) (p / 64) (omega arith)) (eq-eqb (p % 64) (i % 64) (omega arith))
+
+-- a bit that is set where it is one of the rows
+pub set-here : (b : Bool) (i p : ℕ) → p < spotCount → (b || (eqb i p && ltb i spotCount)) ≡ (b || eqb i p)
+set-here b i p h = ap (λ (x : Bool). b || x) (go (eqb i p) refl)
+  where
+    go : (x : Bool) → eqb i p ≡ x → (x && ltb i spotCount) ≡ x
+    go true e = let q = eqb-true i p e in lt-ltb i spotCount (omega arith)
+    go false e = refl
+
+pub set-past : (b : Bool) (i p : ℕ) → spotCount ≤ p → (b || (eqb i p && ltb i spotCount)) ≡ b
+set-past b i p h = ap (λ (x : Bool). b || x) (go (eqb i p) refl) ∙ or-false b
+  where
+    go : (x : Bool) → eqb i p ≡ x → (x && ltb i spotCount) ≡ false
+    go true e = let q = eqb-true i p e in le-ltb i spotCount (omega arith)
+    go false e = refl

@@ -6,11 +6,11 @@ use mathlib.Core.Logic.{_⊎_, inl, inr}
 use native.Mathlib.Omega.{arith}
 use borrow.Author.Tests.{leb-true, leb-false, eqb-true, eqb-false}
 use lib.Dec.{leb, eqb}
-use Rattle.rows.specs.Rows.{spot, rowAt}
+use Rattle.rows.specs.Rows.{octantRows, rowSpots, spot, east, rowAt}
 use Rattle.rows.proofs.Spots.{spot-row}
 use Rattle.seam.specs.declared.edges.Edge.{Edge}
 use Rattle.seam.specs.declared.edges.Edge.the-variants.{Meridian, Beside, Across, Equator}
-use Rattle.seam.specs.inside.Pairs.{joinPairs, east, firstOf, secondOf, countOf}
+use Rattle.seam.specs.inside.Pairs.{joinPairs, firstOf, secondOf, countOf}
 use Rattle.seam.proofs.Pairs.{pairs-other, pairs-at}
 use Rattle.seam.proofs.Groups.{group-apart}
 
@@ -27,7 +27,7 @@ pub record Closed (n : ℕ) (Q : ℕ → Bool) : Type 0 where
 -- a group whose spots are all in one row leaves every other row as it is
 rows-other :
     (e : Edge) (n row : ℕ) (P : ℕ → Bool) → ((x : ℕ) → x < countOf e n → (rowAt (firstOf e n x) ≡ row) × (rowAt (secondOf e n x) ≡ row))
-    → (o t r : ℕ) → t < 258 → r < 320 → (t ≡ row → ⊥) → group e n P (spot o t r) ≡ P (spot o t r)
+    → (o t r : ℕ) → t < octantRows → r < rowSpots → (t ≡ row → ⊥) → group e n P (spot o t r) ≡ P (spot o t r)
 rows-other e n row P f o t r ht hr d =
     pairs-other (firstOf e n) (secondOf e n) P (countOf e n) (spot o t r)
     (λ x l. (absent (firstOf e n x) (f x l .0), absent (secondOf e n x) (f x l .1)))
@@ -63,7 +63,7 @@ module _ (n : ℕ) (h : n ≤ 256) (P : ℕ → Bool) where
   beside-closed x l = pair-closed Beside x l
 
   -- both turns at the poles leave every other row as it is
-  pole-other : (o t r : ℕ) → t < n → r < 320 → group Across n (group Beside n P) (spot o t r) ≡ P (spot o t r)
+  pole-other : (o t r : ℕ) → t < n → r < rowSpots → group Across n (group Beside n P) (spot o t r) ≡ P (spot o t r)
   unfolding firstOf secondOf countOf
   pole-other o t r ht hr =
       rows-other Across n n (group Beside n P) (λ x l. (in-row (x / 2 * 4 + x % 2), in-row (x / 2 * 4 + x % 2 + 2))) o t r (omega arith) hr (λ e. omega arith)
@@ -114,7 +114,7 @@ module _ (n : ℕ) (h : n ≤ 256) (P : ℕ → Bool) where
           inr (rw (q, m, z))
 
   -- every other row stays
-  equator-other : (o t r : ℕ) → 0 < t → t ≤ n → r < 320 → group Equator n P (spot o t r) ≡ P (spot o t r)
+  equator-other : (o t r : ℕ) → 0 < t → t ≤ n → r < rowSpots → group Equator n P (spot o t r) ≡ P (spot o t r)
   unfolding firstOf secondOf countOf
   equator-other o t r hz ht hr =
       rows-other Equator n 0 P

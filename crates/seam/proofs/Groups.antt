@@ -5,19 +5,19 @@ use mathlib.Core.Bool.{Bool}
 use native.Mathlib.Omega.{arith}
 use Rattle.corner.specs.Corner.{corner}
 use Rattle.corner.proofs.Laws.{equator, meridian}
-use Rattle.rows.specs.Rows.{spot, rowAt, colAt}
+use Rattle.rows.specs.Rows.{octantRows, rowSpots, spot, east, rowAt, colAt}
 use Rattle.rows.proofs.Spots.{spot-octant, spot-row, spot-col, spot-same, small, inside-spot}
 use Rattle.seam.specs.Seam.{pointAt}
 use Rattle.seam.specs.declared.edges.Edge.{Edge}
 use Rattle.seam.specs.declared.edges.Edge.the-variants.{Meridian, Beside, Across, Equator}
-use Rattle.seam.specs.inside.Pairs.{joinPair, east, firstOf, secondOf, countOf}
+use Rattle.seam.specs.inside.Pairs.{joinPair, firstOf, secondOf, countOf}
 use Rattle.seam.proofs.Pairs.{Apart}
 use Rattle.seam.proofs.Joining.{Same}
 
 -- ---- points
 
 -- the point at the spot of an octant, a row and a column
-pub point-spot : (k o t r : ℕ) → t < 258 → r < 320 → pointAt k (spot o t r) ≡ corner k o t r
+pub point-spot : (k o t r : ℕ) → t < octantRows → r < rowSpots → pointAt k (spot o t r) ≡ corner k o t r
 unfolding pointAt
 point-spot k o t r ht hr =
     ap (λ (x : ℕ). corner k x (rowAt (spot o t r)) (colAt (spot o t r))) (spot-octant o t r ht hr)
@@ -83,7 +83,7 @@ named e e′ n x p q P t a b =
 -- ---- apart
 
 -- the spots of pairs, by their octants, rows and columns: none is in two pairs where they tell the pair and which of its two spots it is
-module _ (o t r o′ t′ r′ : ℕ → ℕ) (m : ℕ) (fits : (x : ℕ) → x < m → (t x < 258) × (r x < 320) × (t′ x < 258) × (r′ x < 320)) where
+module _ (o t r o′ t′ r′ : ℕ → ℕ) (m : ℕ) (fits : (x : ℕ) → x < m → (t x < octantRows) × (r x < rowSpots) × (t′ x < octantRows) × (r′ x < rowSpots)) where
   apart-by :
       ((x y : ℕ) → x < m → y < m → o x ≡ o y → t x ≡ t y → r x ≡ r y → x ≡ y)
       → ((x y : ℕ) → x < m → y < m → o′ x ≡ o′ y → t′ x ≡ t′ y → r′ x ≡ r′ y → x ≡ y)

@@ -10,8 +10,7 @@ use lib.Pow.{pow-pos}
 use Rattle.corner.specs.Corner.{Point, coordinate, minus, equatorial, polar, pointIn, corner}
 use Rattle.corner.proofs.Octants.{octant-cases}
 use Rattle.corner.proofs.Laws.{size-minus}
-use Rattle.rows.specs.Rows.{spot}
-use Rattle.seam.specs.inside.Pairs.{east}
+use Rattle.rows.specs.Rows.{spot, east}
 use Rattle.seam.proofs.Groups.{meridian-corner}
 use Rattle.seam.proofs.Closed.{Closed}
 

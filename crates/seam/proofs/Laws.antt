@@ -8,7 +8,7 @@ use Rattle.corner.specs.Corner.{Point, corner, pointIn, samePoint}
 use Rattle.corner.proofs.Common.{three, same-coordinates, samePoint-refl}
 use Rattle.walk.specs.Reach.{anyBelow}
 use Rattle.walk.proofs.Reach.{any-in, any-out}
-use Rattle.rows.specs.Rows.{octantAt, rowAt, colAt, inside}
+use Rattle.rows.specs.Rows.{spotCount, octantAt, rowAt, colAt, inside}
 use Rattle.rows.proofs.Spots.{inside-is, spot-fits, row-below, col-below}
 use Rattle.seam.specs.Seam.{pointAt, sameSpot, joined}
 
@@ -20,7 +20,7 @@ same-corner k o t r o′ t′ r′ e =
     three (f 0 (omega arith)) (f 1 (omega arith)) (f 2 (omega arith))
 
 -- a spot of level k after joining
-joined-is : (k : ℕ) (P : ℕ → Bool) (i : ℕ) → inside k i ≡ true → joined k P i ≡ anyBelow 661120 (λ j. sameSpot k i j && P j)
+joined-is : (k : ℕ) (P : ℕ → Bool) (i : ℕ) → inside k i ≡ true → joined k P i ≡ anyBelow spotCount (λ j. sameSpot k i j && P j)
 unfolding joined
 joined-is k P i h = rw h
 
@@ -39,7 +39,7 @@ spot-in k i j h l e =
 
 pub joined-out : (k : ℕ) (P : ℕ → Bool) (i : ℕ) → inside k i ≡ true → joined k P i ≡ true → (j : ℕ) × (inside k j ≡ true) × (pointAt k i ≡ pointAt k j) × (P j ≡ true)
 joined-out k P i h e =
-    let w = any-out 661120 (λ j. sameSpot k i j && P j) (sym (joined-is k P i h) ∙ e) in
+    let w = any-out spotCount (λ j. sameSpot k i j && P j) (sym (joined-is k P i h) ∙ e) in
     let p = parts (sameSpot k i (w .0)) (P (w .0)) (w .2) in
     let q = spot-out k i (w .0) (p .0) in
     (w .0, q .0, q .1, p .1)
@@ -47,8 +47,8 @@ joined-out k P i h e =
 pub joined-in : (k : ℕ) (P : ℕ → Bool) (i j : ℕ) → inside k i ≡ true → inside k j ≡ true → pointAt k i ≡ pointAt k j → P j ≡ true → joined k P i ≡ true
 joined-in k P i j h l e p =
     let n = inside-is k j l in
-    let b : j < 661120 = rw (n .again) at (spot-fits (octantAt j) (rowAt j) (colAt j) (n .octant) (row-below j) (col-below j)) in
-    joined-is k P i h ∙ any-in 661120 (λ j. sameSpot k i j && P j) j b (both (sameSpot k i j) (P j) (spot-in k i j h l e) p)
+    let b : j < spotCount = rw (n .again) at (spot-fits (octantAt j) (rowAt j) (colAt j) (n .octant) (row-below j) (col-below j)) in
+    joined-is k P i h ∙ any-in spotCount (λ j. sameSpot k i j && P j) j b (both (sameSpot k i j) (P j) (spot-in k i j h l e) p)
 
 pub joined-stays : (k : ℕ) (P : ℕ → Bool) (i : ℕ) → inside k i ≡ false → joined k P i ≡ P i
 unfolding joined

@@ -3,7 +3,7 @@ use Prim.Native.Nat.{ℕ}
 use mathlib.Core.Bool.{Bool, _&&_, cond}
 use Rattle.corner.specs.Corner.{Point, corner, samePoint}
 use Rattle.walk.specs.Reach.{anyBelow}
-use Rattle.rows.specs.Rows.{octantAt, rowAt, colAt, inside}
+use Rattle.rows.specs.Rows.{spotCount, octantAt, rowAt, colAt, inside}
 
 -- the point at a spot
 unfoldable pub pointAt : ℕ → ℕ → Point
@@ -15,4 +15,4 @@ sameSpot k i j = inside k i && (inside k j && samePoint (pointAt k i) (pointAt k
 
 -- a spot of level k is set where a spot of the same point was; any other stays
 unfoldable pub joined : ℕ → (ℕ → Bool) → ℕ → Bool
-joined k P i = cond (inside k i) (anyBelow 661120 (λ j. sameSpot k i j && P j)) (P i)
+joined k P i = cond (inside k i) (anyBelow spotCount (λ j. sameSpot k i j && P j)) (P i)

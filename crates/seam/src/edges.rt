@@ -1,9 +1,10 @@
 // The pairs of spots of one point, in four groups: on the meridians, at the poles in two turns, and on the equator.
 ghost use mathlib.Core.Path.{_≡_};
 ghost use Prim.Native.Nat.{_≤_, _<_};
-ghost use Rattle.rows.specs.Rows.{lit, spot};
+ghost use Rattle.rows.specs.Rows.{lit};
 ghost use Rattle.seam.specs.inside.Pairs.{joinPair, joinPairs, firstOf, secondOf, countOf};
 use crate::bits;
+use rows::Rows;
 
 // A group of pairs: the two sides of each meridian, octants beside each other at a pole, octants across it, the two sides of the equator.
 pub(crate) enum Edge {
@@ -13,16 +14,8 @@ pub(crate) enum Edge {
     Equator,
 }
 
-// The spot of a row and a column of an octant.
-fn spot_of(octant: usize, row: usize, col: usize) -> usize
-    requires { ⌜ (octant < 8) × (row < 258) × (col < 320) ⌝ }
-    ensures { λ r. ⌜ r ≡ spot octant row col ⌝ }
-{
-    (258 * octant + row + 2) * 320 + col
-}
-
 // How many pairs a group has, where the octants' edges have `size` parts.
-fn count_of(edge: Edge, size: usize) -> usize
+fn count_of(edge: Edge, size: u32) -> u32
     requires { ⌜ size ≤ 256 ⌝ }
     ensures { λ r. ⌜ r ≡ countOf edge size ⌝ }
 {
@@ -35,7 +28,7 @@ fn count_of(edge: Edge, size: usize) -> usize
 }
 
 // Joins the two spots of one pair.
-fn join_one(edge: Edge, size: usize, pair: usize, points: &mut [u64; 10330])
+fn join_one(edge: Edge, size: u32, pair: u32, points: &mut Rows)
     requires { ⌜ (size ≤ 256) × (pair < countOf edge size) ⌝ }
     ensures { λ _. ⌜ lit (now (points .exit)) ≡ joinPair (firstOf edge size pair) (secondOf edge size pair) (lit (now (points .entry))) ⌝ }
 {
@@ -43,39 +36,43 @@ fn join_one(edge: Edge, size: usize, pair: usize, points: &mut [u64; 10330])
         Edge::Meridian => {
             let octant = pair % 8;
             let row = pair / 8;
-            let east = octant / 4 * 4 + (octant + 1) % 4;
+            let east = rows::east(octant);
             bits::join_bits(
                 points,
-                spot_of(octant, row, size - row),
-                spot_of(east, row, 0),
+                rows::spot_of(octant, row, size - row),
+                rows::spot_of(east, row, 0),
             );
         }
         Edge::Beside => {
             let octant = 2 * pair;
             bits::join_bits(
                 points,
-                spot_of(octant, size, 0),
-                spot_of(octant + 1, size, 0),
+                rows::spot_of(octant, size, 0),
+                rows::spot_of(octant + 1, size, 0),
             );
         }
         Edge::Across => {
             let octant = pair / 2 * 4 + pair % 2;
             bits::join_bits(
                 points,
-                spot_of(octant, size, 0),
-                spot_of(octant + 2, size, 0),
+                rows::spot_of(octant, size, 0),
+                rows::spot_of(octant + 2, size, 0),
             );
         }
         Edge::Equator => {
             let octant = pair % 4;
             let col = pair / 4;
-            bits::join_bits(points, spot_of(octant, 0, col), spot_of(octant + 4, 0, col));
+            bits::join_bits(
+                points,
+                rows::spot_of(octant, 0, col),
+                rows::spot_of(octant + 4, 0, col),
+            );
         }
     }
 }
 
 // Joins the pairs of a group, one after the other.
-pub(crate) fn join_edge(edge: Edge, size: usize, points: &mut [u64; 10330])
+pub(crate) fn join_edge(edge: Edge, size: u32, points: &mut Rows)
     requires { ⌜ size ≤ 256 ⌝ }
     ensures { λ _. ⌜ lit (now (points .exit)) ≡ joinPairs (firstOf edge size) (secondOf edge size) (countOf edge size) (lit (now (points .entry))) ⌝ }
 {

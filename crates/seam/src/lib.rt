@@ -11,9 +11,10 @@ mod bits;
 mod edges;
 
 use edges::Edge;
+use rows::Rows;
 
 // Sets every bit of each point of which a bit is set. Above level 8 nothing is done.
-pub fn join_seams(level: u32, points: &mut [u64; 10330])
+pub fn join_seams(level: u32, points: &mut Rows)
     ensures { λ _. ⌜ ((i : ℕ) →
         lit (now (points .exit)) i
         ≡ cond (leb level maxMaskLevel) (joined level (lit (now (points .entry))) i) (lit (now (points .entry)) i)) ⌝ }

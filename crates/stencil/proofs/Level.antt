@@ -12,9 +12,9 @@ use lib.Pow.{pow-pos}
 use Rattle.refusal.proofs.Tests.{same-test}
 use Rattle.bitset.specs.Bits.{bit, bitsOf}
 use Rattle.bitset.proofs.Laws.{bit-zero, bit-past, bit-bitsOf}
-use Rattle.rows.specs.Rows.{lit, inside, octantAt, rowAt, colAt}
+use Rattle.rows.specs.Rows.{lit, wordCount, spotCount, firstWord, octantAt, rowAt, colAt, inside}
 use Rattle.rows.proofs.Words.{lit-past}
-use Rattle.stencil.specs.inside.Words.{WordOf}
+use Rattle.rows.specs.Words.{WordOf}
 use Rattle.stencil.proofs.Loops.{Written}
 
 -- ---- ones
@@ -52,7 +52,7 @@ abbrev pub sumAt : ℕ → ℕ
 sumAt w = (w / 5 - 2) % 258 + w % 5 * 64
 
 -- in the rows: those of small sum
-inside-sum : (k w j : ℕ) → 10 ≤ w → w < 10330 → j < 64 → inside k (64 * w + j) ≡ leb (sumAt w + j) (2 ^ k)
+inside-sum : (k w j : ℕ) → firstWord ≤ w → w < wordCount → j < 64 → inside k (64 * w + j) ≡ leb (sumAt w + j) (2 ^ k)
 unfolding inside
 inside-sum k w j h u l =
     let i = 64 * w + j in
@@ -64,11 +64,11 @@ inside-sum k w j h u l =
     rw (le-leb 640 i (omega arith), lt-ltb (octantAt i) 8 b, e)
 
 -- none where that is more than the level's
-pub past-sum : (k w : ℕ) → 10 ≤ w → w < 10330 → 2 ^ k < sumAt w → WordOf 0 (inside k) w
+pub past-sum : (k w : ℕ) → firstWord ≤ w → w < wordCount → 2 ^ k < sumAt w → WordOf 0 (inside k) w
 past-sum k w h u g = record { bits = λ j l. bit-zero j ∙ sym (inside-sum k w j h u l ∙ lt-leb (sumAt w + j) (2 ^ k) (omega arith)) }
 
 -- else as many as there is left
-pub in-sum : (k w r : ℕ) → 10 ≤ w → w < 10330 → sumAt w ≤ 2 ^ k → ((j : ℕ) → j < 64 → bit r j ≡ ltb j (2 ^ k - sumAt w + 1)) → WordOf r (inside k) w
+pub in-sum : (k w r : ℕ) → firstWord ≤ w → w < wordCount → sumAt w ≤ 2 ^ k → ((j : ℕ) → j < 64 → bit r j ≡ ltb j (2 ^ k - sumAt w + 1)) → WordOf r (inside k) w
 in-sum k w r h u g f = record { bits = λ j l. f j l ∙ below j (sumAt w) (2 ^ k) g ∙ sym (inside-sum k w j h u l) }
   where
     below : (j s n : ℕ) → s ≤ n → ltb j (n - s + 1) ≡ leb (s + j) n
@@ -77,16 +77,16 @@ in-sum k w r h u g f = record { bits = λ j l. f j l ∙ below j (sumAt w) (2 ^ 
         (λ p. lt-ltb j (n - s + 1) (omega (arith, leb-true (s + j) n p)))
 
 -- past the last word there are none
-past-rows : (k i : ℕ) → 661120 ≤ i → inside k i ≡ false
+past-rows : (k i : ℕ) → spotCount ≤ i → inside k i ≡ false
 unfolding inside
 past-rows k i h = rw (le-leb 640 i (omega arith), le-ltb (octantAt i) 8 (omega arith))
 
 -- all words written hold all points
-pub all-written : (k : ℕ) {s₀ s : List ℕ} → length s ≡ 10330 → Written 0 10330 (inside k) s₀ s → (i : ℕ) → lit s i ≡ inside k i
-all-written k {s₀} {s} n g i = go (ltb i 661120) refl
+pub all-written : (k : ℕ) {s₀ s : List ℕ} → length s ≡ wordCount → Written 0 wordCount (inside k) s₀ s → (i : ℕ) → lit s i ≡ inside k i
+all-written k {s₀} {s} n g i = go (ltb i spotCount) refl
   where
-    go : (b : Bool) → ltb i 661120 ≡ b → lit s i ≡ inside k i
+    go : (b : Bool) → ltb i spotCount ≡ b → lit s i ≡ inside k i
     go true e = g .bits i ∙ rw (le-leb 0 i (omega arith), e)
     go false e =
-        let h = ltb-false i 661120 e in
+        let h = ltb-false i spotCount e in
         lit-past s i (omega arith) ∙ sym (past-rows k i h)

@@ -1,3 +1,3 @@
-pub mod Shifts
+pub mod Seven
 pub mod Loops
 pub mod Level

@@ -11,7 +11,7 @@ use lib.ListN.{length, set}
 use Rattle.bitset.specs.Bits.{bit}
 use Rattle.rows.specs.Rows.{lit}
 use Rattle.rows.proofs.Words.{lit-set}
-use Rattle.stencil.specs.inside.Words.{WordOf}
+use Rattle.rows.specs.Words.{WordOf}
 
 -- the words from `first` to before w hold a set, the others what they held
 pub record Written (first w : ℕ) (P : ℕ → Bool) (s₀ s : List ℕ) : Type 0 where

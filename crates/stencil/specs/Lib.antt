@@ -1,2 +1,1 @@
 pub mod Stencil
-pub mod inside

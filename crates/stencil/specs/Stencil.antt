@@ -1,7 +1,8 @@
 -- Cells and points that meet within an octant, by their spots: a row on is 320 spots on, a column on is one.
-use Prim.Native.Nat.{ℕ, _+_, _-_}
+use Prim.Native.Nat.{ℕ, _+_, _*_, _-_}
 use mathlib.Core.Bool.{Bool, _&&_, _||_}
 use lib.Dec.{leb, ltb}
+use Rattle.rows.specs.Rows.{firstWord, cellsEnd}
 
 -- the points of cells: point (t,r) is a corner of up(t,r), up(t−1,r), up(t,r−1), down(t−1,r), down(t,r−1) and down(t−1,r−1)
 unfoldable pub pointsOf : (ℕ → Bool) → (ℕ → Bool) → ℕ → Bool
@@ -18,10 +19,14 @@ downOf P i = P (i + 320) || (P (i + 1) || P (i + 321))
 unfoldable pub nearOf : (ℕ → Bool) → ℕ → Bool
 nearOf P i = P i || (P (i + 1) || (P (i - 1) || (P (i + 320) || (P (i + 319) || (P (i - 320) || P (i - 319))))))
 
+-- the word after the last in which a point lies
+abbrev pub pointsEnd : ℕ
+pointsEnd = 10325
+
 -- the spots from the first row of octant 0 to the last of octant 7
 abbrev pub inRows : ℕ → Bool
-inRows i = leb 640 i && ltb i 660800
+inRows i = leb (64 * firstWord) i && ltb i (64 * pointsEnd)
 
 -- the same without the row after which no cell begins
 abbrev pub inCellRows : ℕ → Bool
-inCellRows i = leb 640 i && ltb i 660480
+inCellRows i = leb (64 * firstWord) i && ltb i (64 * cellsEnd)

@@ -1,11 +1,10 @@
 -- `grow_into` meets its contract: what is copied is the mask, and it is grown in place. Assumes nothing.
-use Prim.Native.Nat.{ℕ, _^_}
+use Prim.Native.Nat.{ℕ}
 use mathlib.Core.Path.{_≡_, sym, ap, _∙_}
-use mathlib.Core.List.{List}
 use borrow.Author.Needs.{needs}
-use lib.ListN.{length, replicate}
-use Rattle.bitset.specs.Bits.{marked, bytesOf}
-use Rattle.grow.specs.Grow.{grownCells}
+use lib.ListN.{replicate}
+use Rattle.dilate.specs.Dilate.{dilated}
+use Rattle.dilate.proofs.Laws.{dilated-mask}
 use Rattle.grow.proofs.Bytes.{copied}
 use Rattle.grow.proofs.grow_into.Statement.{statement}
 use Rattle.grow.proofs.grow_into.Tie as tie
@@ -20,8 +19,8 @@ entry c = c .before .before .before .before .before
 written : (c : tie.After-copy) → c .copy .last .1 .0 ≡ entry c .args .mask .now
 written c = let h = entry c .pre in copied _ (entry c .args .out .now) _ (h .1 ∙ sym (h .2)) (c .copy .ensures .1)
 
-spread-requires : tie.Need-spread-requires
-spread-requires c κs = let d = c .before .before .before in (entry d .pre .0, ap length (written d) ∙ entry d .pre .1)
+dilate-requires : tie.Need-dilate-requires
+dilate-requires c κs = search needs
 
 clear-requires : tie.Need-clear-requires
 clear-requires c κs = search needs
@@ -38,11 +37,11 @@ returns c =
     let s = w .before .before .before .before in
     let d = s .before .before .before .before in
     let a = entry d .args in (
-      s .spread .ensures ∙ ap (λ (l : List ℕ). bytesOf (4 ^ a .level) (grownCells (a .level) (a .rings) (marked l))) (written d),
+      s .dilate .ensures ∙ ap (dilated (a .level) (a .rings)) (written d) ∙ dilated-mask (a .level) (a .rings) (a .mask .now) (entry d .pre .0) (entry d .pre .1),
       w .clear .ensures ∙ ap (λ (n : ℕ). replicate n 0) (entry d .pre .3),
     )
 
 pub grow-into-spec : {M : Type 1} → statement M
 grow-into-spec =
     tie.close
-    (tie.spec copy-requires spread-requires clear-requires same-length same-length-2 returns)
+    (tie.spec copy-requires dilate-requires clear-requires same-length same-length-2 returns)

@@ -7,6 +7,7 @@ use borrow.Author.Needs.{needs}
 use lib.ListN.{length, replicate}
 use Rattle.bitset.specs.Bits.{marked}
 use Rattle.bitset.proofs.Outside.{complement-marks}
+use Rattle.dilate.proofs.Laws.{dilated-mask}
 use Rattle.grow.proofs.Bytes.{copied}
 use Rattle.grow.proofs.Shrinking.{shrunk-bytes}
 use Rattle.grow.proofs.shrink_into.Statement.{statement}
@@ -24,10 +25,10 @@ entry c = c .before .before .before .before .before
 abbrev first : tie.After-complement → tie.After-copy
 first c = c .before .before .before .before
 
-abbrev turned : tie.After-spread → tie.After-complement
+abbrev turned : tie.After-dilate → tie.After-complement
 turned c = c .before .before .before .before
 
-abbrev reached : tie.After-complement2 → tie.After-spread
+abbrev reached : tie.After-complement2 → tie.After-dilate
 reached c = c .before .before .before .before
 
 -- what is copied first is the mask
@@ -46,8 +47,8 @@ outside c = subst
 long : (c : tie.After-complement) → length (c .complement .last .0) ≡ 4 ^ entry (first c) .args .level
 long c = c .complement .kept .0 ∙ ap length (written (first c)) ∙ entry (first c) .pre .1
 
-spread-requires : tie.Need-spread-requires
-spread-requires c κs = let d = c .before .before .before in (entry (first d) .pre .0, long d)
+dilate-requires : tie.Need-dilate-requires
+dilate-requires c κs = search needs
 
 complement-requires-2 : tie.Need-complement-requires-2
 complement-requires-2 c κs = search needs
@@ -69,10 +70,10 @@ returns c =
     let d = turned s in
     let e = entry (first d) in
     let a = e .args in
-    let l = s .spread .kept .1 .1 .0 ∙ long d in
+    let l = s .dilate .kept .1 .1 .0 ∙ long d in
     let out = complement-marks _ _ (n .complement2 .ensures) in (
       shrunk-bytes (a .level) (a .rings) (a .mask .now) _ _ _ (e .pre .1) l (n .complement2 .kept .0 ∙ l)
-          (λ i. w .before .before .slice-known6 .given i .fits) (outside d) (s .spread .ensures) out,
+          (λ i. w .before .before .slice-known6 .given i .fits) (outside d) (s .dilate .ensures ∙ dilated-mask (a .level) (a .rings) _ (e .pre .0) (long d)) out,
       w .clear .ensures ∙ ap (λ (n : ℕ). replicate n 0) (e .pre .3),
     )
 
@@ -82,7 +83,7 @@ shrink-into-spec =
     (tie.spec
     copy-requires
     complement-requires
-    spread-requires
+    dilate-requires
     complement-requires-2
     clear-requires
     same-length

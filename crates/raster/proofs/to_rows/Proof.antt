@@ -1,13 +1,13 @@
 -- `to_rows` meets its contract: the rows are cleared and the marked cells set, where the slice is a mask of the level. Assumes nothing.
-use mathlib.Core.Path.{_≡_, sym, ap, _∙_}
+use mathlib.Core.Path.{_≡_, refl, sym, ap, _∙_}
 use borrow.Author.Needs.{needs}
-use lib.ListN.{length}
 use Rattle.refusal.specs.Answer.{given, done}
 use Rattle.refusal.specs.Outcome.{saidOutcome}
 use Rattle.bitset.specs.Bits.{marked}
 use Rattle.cell.specs.declared.Kind.the-variants.{Up, Down}
 use Rattle.mask.specs.Mask.{maskCall}
 use Rattle.mask.proofs.Answers.{is-mask}
+use Rattle.rows.specs.Rows.{wordCount}
 use Rattle.raster.proofs.Answers.{passed-is, refused-is, all-added}
 use Rattle.raster.proofs.to_rows.Statement.{statement}
 use Rattle.raster.proofs.to_rows.Tie as tie
@@ -18,19 +18,13 @@ is-mask-requires c κs = search needs
 enum-told : tie.Need-enum-told
 enum-told c = search needs
 
-clear-requires : tie.Need-clear-requires
-clear-requires c κs = search needs
-
-clear-requires-2 : tie.Need-clear-requires-2
-clear-requires-2 c κs = search needs
-
 -- the slice is a mask of the level
 fits : (c : tie.After-enum-told) → let a = c .before .before .before .before .args in given done ≡ maskCall (a .level) (a .mask .now)
 fits c = sym (ap saidOutcome (c .enum-told .given .1)) ∙ c .before .before .is-mask .ensures
 
 put-pieces-requires : tie.Need-put-pieces-requires
 put-pieces-requires c κs =
-    let t = c .before .before .before .before .before .before in
+    let t = c .before .before .before .before in
     let a = t .before .before .before .before .args in
     let m = is-mask (a .level) (a .mask .now) (fits t) in
     (m .level, m .long)
@@ -41,13 +35,12 @@ enum-told-2 c = search needs
 returns : tie.Need-returns
 returns c =
     let p = c .put-pieces .ensures in
-    let k = c .before .before .before in
-    let t = k .before .before .before .before in
+    let t = c .before .before .before .before .before in
     let a = t .before .before .before .before .args in
     let m = passed-is (a .level) (a .mask .now) (fits t) in
     let A = marked (a .mask .now) in (
-      (λ i. rw m (all-added Up (a .level) (length (a .up .now)) A _ _ (k .before .before .clear .ensures) (p .0) i)),
-      (λ i. rw m (all-added Down (a .level) (length (a .down .now)) A _ _ (k .clear2 .ensures) (p .1) i)),
+      (λ i. rw m (all-added Up (a .level) wordCount A _ _ refl (p .0) i)),
+      (λ i. rw m (all-added Down (a .level) wordCount A _ _ refl (p .1) i)),
     )
 
 returns-2 : tie.Need-returns-2
@@ -62,8 +55,6 @@ to-rows-spec =
     (tie.spec
     is-mask-requires
     enum-told
-    clear-requires
-    clear-requires-2
     put-pieces-requires
     enum-told-2
     returns

@@ -21,10 +21,10 @@ shl-size : tie.Need-shl-size
 shl-size c = search needs
 
 -- the size as the code shifts it
-size-is : (level : ℕ) → level ≤ 8 → 1 * 2 ^ level % 2 ^ 64 ≡ 2 ^ level
-size-is level h = shifted 64 level (omega arith)
+size-is : (level : ℕ) → level ≤ 8 → 1 * 2 ^ level % 2 ^ 32 ≡ 2 ^ level
+size-is level h = shifted 32 level (omega arith)
 
-size-small : (level : ℕ) → level ≤ 8 → 1 * 2 ^ level % 2 ^ 64 ≤ 256
+size-small : (level : ℕ) → level ≤ 8 → 1 * 2 ^ level % 2 ^ 32 ≤ 256
 size-small level h = rw (size-is level h) (pow-mono {i = level} {j = 8} h)
 
 join-edge-requires : tie.Need-join-edge-requires
@@ -46,7 +46,7 @@ returns-2 c i =
     let c1 = c2 .before .before in
     let e = c1 .before .before in
     let k = e .before .args .level in
-    let n = 1 * 2 ^ k % 2 ^ 64 in
+    let n = 1 * 2 ^ k % 2 ^ 32 in
     let f =
     c .join-edge4 .ensures
     ∙ ap (group Equator n) (c3 .join-edge3 .ensures ∙ ap (group Across n) (c2 .join-edge2 .ensures ∙ ap (group Beside n) (c1 .join-edge .ensures))) in

@@ -2,7 +2,7 @@
 use Prim.Native.Nat.{ℕ, zero, suc, _+_, _*_, _-_, _/_, _%_}
 use mathlib.Core.Bool.{Bool, _||_, cond}
 use lib.Dec.{eqb}
-use Rattle.rows.specs.Rows.{spot}
+use Rattle.rows.specs.Rows.{spot, east}
 use Rattle.seam.specs.declared.edges.Edge.{Edge}
 use Rattle.seam.specs.declared.edges.Edge.the-variants.{Meridian, Beside, Across, Equator}
 
@@ -14,10 +14,6 @@ joinPair p q P i = cond (eqb i p || eqb i q) (P p || P q) (P i)
 unfoldable pub joinPairs : (ℕ → ℕ) → (ℕ → ℕ) → ℕ → (ℕ → Bool) → ℕ → Bool
 joinPairs p q zero P = P
 joinPairs p q (suc m) P = joinPair (p m) (q m) (joinPairs p q m P)
-
--- the octant to the east
-abbrev pub east : ℕ → ℕ
-east o = o / 4 * 4 + (o + 1) % 4
 
 -- the two spots of pair x of a group
 unfoldable pub firstOf : Edge → ℕ → ℕ → ℕ

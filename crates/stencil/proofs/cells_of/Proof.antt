@@ -2,7 +2,7 @@
 use Prim.Native.Nat.{_≤_, _-_}
 use mathlib.Core.Path.{_≡_}
 use native.Mathlib.Omega.{arith}
-use Rattle.rows.specs.Rows.{lit}
+use Rattle.rows.specs.Rows.{lit, firstWord, cellsEnd}
 use Rattle.stencil.specs.Stencil.{upOf, downOf}
 use Rattle.stencil.proofs.Loops.{Written, written-none, written-more}
 use Rattle.stencil.proofs.cells_of.Statement.{statement}
@@ -10,10 +10,10 @@ use Rattle.stencil.proofs.cells_of.Tie as tie
 
 abbrev Inv-loop : tie.InvT-loop
 Inv-loop points up₀ down₀ w₀ up down w =
-    (10 ≤ w) × (w ≤ 10320) × Written 10 w (upOf (lit points)) up₀ up × Written 10 w (downOf (lit points)) down₀ down
+    (firstWord ≤ w) × (w ≤ cellsEnd) × Written firstWord w (upOf (lit points)) up₀ up × Written firstWord w (downOf (lit points)) down₀ down
 
 abbrev μ-loop : tie.MeasureT-loop
-μ-loop points up₀ down₀ w₀ up down w = 10320 - w
+μ-loop points up₀ down₀ w₀ up down w = cellsEnd - w
 
 loop-holds : tie.Need-loop-holds Inv-loop μ-loop
 loop-holds c = (omega arith, omega arith, written-none 10 _ (c .args .up .now), written-none 10 _ (c .args .down .now))
@@ -49,7 +49,7 @@ loop-again c =
 returns : tie.Need-returns Inv-loop μ-loop
 returns c =
     let l = c .before .loop in
-    let e : l .w ≡ 10320 = omega arith in
+    let e : l .w ≡ cellsEnd = omega arith in
     ((rw e at (l .inv .2)) .bits, (rw e at (l .inv .3)) .bits)
 
 pub cells-of-spec : {M : Type 1} → statement M

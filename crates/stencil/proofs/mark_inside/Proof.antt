@@ -3,7 +3,7 @@
 use Prim.Native.Nat.{_≤_, _-_}
 use mathlib.Core.Path.{_≡_}
 use native.Mathlib.Omega.{arith}
-use Rattle.rows.specs.Rows.{inside}
+use Rattle.rows.specs.Rows.{wordCount, inside}
 use Rattle.stencil.proofs.Loops.{Written, written-none, written-more}
 use borrow.Author.Tests.{le-leb, lt-leb}
 use lib.ListN.{length}
@@ -12,10 +12,10 @@ use Rattle.stencil.proofs.mark_inside.Statement.{statement}
 use Rattle.stencil.proofs.mark_inside.Tie as tie
 
 abbrev Inv-loop : tie.InvT-loop
-Inv-loop level out₀ w₀ out w = (w ≤ 10330) × (1 ≤ w → length out ≡ 10330) × Written 0 w (inside level) out₀ out
+Inv-loop level out₀ w₀ out w = (w ≤ wordCount) × (1 ≤ w → length out ≡ wordCount) × Written 0 w (inside level) out₀ out
 
 abbrev μ-loop : tie.MeasureT-loop
-μ-loop level out₀ w₀ out w = 10330 - w
+μ-loop level out₀ w₀ out w = wordCount - w
 
 returns : tie.Need-returns Inv-loop μ-loop
 returns c i = rw (lt-leb (c .before .args .level) 8 (omega arith))
@@ -47,7 +47,7 @@ returns-2 : tie.Need-returns-2 Inv-loop μ-loop
 returns-2 c i =
     let l = c .before .loop in
     let k = c .before .before .before .args .level in
-    let e : l .w ≡ 10330 = omega arith in
+    let e : l .w ≡ wordCount = omega arith in
     rw (le-leb k 8 (omega arith)) (all-written k (l .inv .1 (omega arith)) (rw e at (l .inv .2)) i)
 
 pub mark-inside-spec : {M : Type 1} → statement M

@@ -2,17 +2,17 @@
 use Prim.Native.Nat.{_≤_, _-_}
 use mathlib.Core.Path.{_≡_}
 use native.Mathlib.Omega.{arith}
-use Rattle.rows.specs.Rows.{lit}
-use Rattle.stencil.specs.Stencil.{pointsOf}
+use Rattle.rows.specs.Rows.{lit, firstWord}
+use Rattle.stencil.specs.Stencil.{pointsOf, pointsEnd}
 use Rattle.stencil.proofs.Loops.{Written, written-none, written-more}
 use Rattle.stencil.proofs.points_of.Statement.{statement}
 use Rattle.stencil.proofs.points_of.Tie as tie
 
 abbrev Inv-loop : tie.InvT-loop
-Inv-loop up down points₀ w₀ points w = (10 ≤ w) × (w ≤ 10325) × Written 10 w (pointsOf (lit up) (lit down)) points₀ points
+Inv-loop up down points₀ w₀ points w = (firstWord ≤ w) × (w ≤ pointsEnd) × Written firstWord w (pointsOf (lit up) (lit down)) points₀ points
 
 abbrev μ-loop : tie.MeasureT-loop
-μ-loop up down points₀ w₀ points w = 10325 - w
+μ-loop up down points₀ w₀ points w = pointsEnd - w
 
 loop-holds : tie.Need-loop-holds Inv-loop μ-loop
 loop-holds c = (omega arith, omega arith, written-none 10 _ (c .args .points .now))
@@ -37,7 +37,7 @@ loop-again c =
 returns : tie.Need-returns Inv-loop μ-loop
 returns c =
     let l = c .before .loop in
-    let e : l .w ≡ 10325 = omega arith in
+    let e : l .w ≡ pointsEnd = omega arith in
     (rw e at (l .inv .2)) .bits
 
 pub points-of-spec : {M : Type 1} → statement M

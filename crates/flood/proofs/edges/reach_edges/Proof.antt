@@ -1,10 +1,11 @@
 -- `reach_edges` meets its contract: the spots are those of the two edges. Assumes nothing.
-use borrow.Author.Needs.{needs}
-use Prim.Native.Nat.{ℕ, _*_, _-_, _%_, _^_, _≤_}
+use Prim.Native.Nat.{ℕ, _+_, _*_, _-_, _%_, _^_, _≤_, _<_}
 use mathlib.Core.Path.{_≡_, ap, _∙_}
 use native.Mathlib.Omega.{arith}
+use borrow.Author.Needs.{needs}
 use lib.Pow.{pow-pos}
-use Rattle.rows.specs.Rows.{spot}
+use Rattle.rows.specs.Rows.{spotCount, spot, spotIn, east}
+use Rattle.rows.proofs.Spots.{spot-told}
 use Rattle.flood.proofs.Crossing.{size-shifted, size-low, turn-edges}
 use Rattle.flood.proofs.edges.reach_edges.Statement.{statement}
 use Rattle.flood.proofs.edges.reach_edges.Tie as tie
@@ -16,6 +17,38 @@ size e = size-shifted (e .args .level) (e .pre .0)
 low : (e : tie.Start) → 2 ^ e .args .level ≤ 256
 low e = size-low (e .args .level) (e .pre .0)
 
+-- the four spots
+abbrev Is : ℕ → ℕ → ℕ → ℕ → Type 0
+Is i o t r = (i ≡ spot o t r) × (i < spotCount)
+
+east-cell : (c : tie.After-spot-of) → let a = c .before .args in Is (c .spot-of .result) (a .octant) (a .n) (2 ^ a .level - 1 - a .n)
+east-cell c =
+    let e = c .before in
+    let a = e .args in
+    let l = low e in
+    let r = c .spot-of .ensures ∙ ap (λ (m : ℕ). spotIn (a .octant) (a .n) (m - 1 - a .n)) (size e) in
+    spot-told (a .octant) (a .n) (2 ^ a .level - 1 - a .n) r (omega arith) (omega arith) (omega arith)
+
+west-cell : (c : tie.After-spot-of2) → let a = c .before .before .before .args in Is (c .spot-of2 .result) (east (a .octant)) (a .n) 0
+west-cell c =
+    let e = c .before .before .before in
+    let a = e .args in
+    let l = low e in
+    let r = c .spot-of2 .ensures ∙ ap (λ (o : ℕ). spotIn o (a .n) 0) (c .before .east .ensures) in
+    spot-told (east (a .octant)) (a .n) 0 r (omega arith) (omega arith) (omega arith)
+
+here-cell : (c : tie.After-spot-of3) → let a = c .before .before .before .before .before .before .args in Is (c .spot-of3 .result) (a .octant) 0 (a .n)
+here-cell c =
+    let e = c .before .before .before .before .before .before in
+    let l = low e in
+    spot-told (e .args .octant) 0 (e .args .n) (c .spot-of3 .ensures) (omega arith) (omega arith) (omega arith)
+
+across-cell : (c : tie.After-spot-of4) → let a = c .before .before .before .before .before .before .before .args in Is (c .spot-of4 .result) ((a .octant + 4) % 8) 0 (a .n)
+across-cell c =
+    let e = c .before .before .before .before .before .before .before in
+    let l = low e in
+    spot-told ((e .args .octant + 4) % 8) 0 (e .args .n) (c .spot-of4 .ensures) (omega arith) (omega arith) (omega arith)
+
 shl-spot-of : tie.Need-shl-spot-of
 shl-spot-of c = search needs
 
@@ -26,34 +59,28 @@ sub-spot-of-2 : tie.Need-sub-spot-of-2
 sub-spot-of-2 c = omega (arith, size c)
 
 spot-of-requires : tie.Need-spot-of-requires
-spot-of-requires c κs = omega (arith, size c, low c, c .pre)
+spot-of-requires c κs = search needs
 
-mul-spot-of : tie.Need-mul-spot-of
-mul-spot-of c = search needs
+east-requires : tie.Need-east-requires
+east-requires c κs = search needs
+
+spot-of-requires-2 : tie.Need-spot-of-requires-2
+spot-of-requires-2 c κs = search needs
+
+reach-pair-requires : tie.Need-reach-pair-requires
+reach-pair-requires c κs = let w = c .before in (east-cell (w .before .before) .1, west-cell w .1)
+
+spot-of-requires-3 : tie.Need-spot-of-requires-3
+spot-of-requires-3 c κs = search needs
 
 add-spot-of : tie.Need-add-spot-of
 add-spot-of c = search needs
 
-add-spot-of-2 : tie.Need-add-spot-of-2
-add-spot-of-2 c = search needs
-
-spot-of-requires-2 : tie.Need-spot-of-requires-2
-spot-of-requires-2 c κs = omega (arith, low (c .before), c .before .pre)
-
-reach-pair-requires : tie.Need-reach-pair-requires
-reach-pair-requires c κs = search needs
-
-spot-of-requires-3 : tie.Need-spot-of-requires-3
-spot-of-requires-3 c κs = let e = c .before .before .before .before in omega (arith, low e, e .pre)
-
-add-spot-of-3 : tie.Need-add-spot-of-3
-add-spot-of-3 c = search needs
-
 spot-of-requires-4 : tie.Need-spot-of-requires-4
-spot-of-requires-4 c κs = let e = c .before .before .before .before .before in omega (arith, low e, e .pre)
+spot-of-requires-4 c κs = search needs
 
 reach-pair-requires-2 : tie.Need-reach-pair-requires-2
-reach-pair-requires-2 c κs = search needs
+reach-pair-requires-2 c κs = let w = c .before in (here-cell (w .before) .1, across-cell w .1)
 
 returns : tie.Need-returns
 returns c od d =
@@ -61,11 +88,9 @@ returns c od d =
     let v = w .before in
     let p = v .before in
     let y = p .before .before in
-    let x = y .before in
-    let e = x .before in
-    let a = e .args in
-    let first = x .spot-of .ensures .0 ∙ ap (λ (m : ℕ). spot (a .octant) (a .n) (m - 1 - a .n)) (size e) in
-    turn-edges (a .level) (a .octant) (a .n) first (y .spot-of2 .ensures .0) (v .spot-of3 .ensures .0) (w .spot-of4 .ensures .0) (p .reach-pair .ensures od d) (c .reach-pair2 .ensures od d)
+    let x = y .before .before in
+    let a = x .before .args in
+    turn-edges (a .level) (a .octant) (a .n) (east-cell x .0) (west-cell y .0) (here-cell v .0) (across-cell w .0) (p .reach-pair .ensures od d) (c .reach-pair2 .ensures od d)
 
 pub reach-edges-spec : {M : Type 1} → statement M
 reach-edges-spec =
@@ -75,13 +100,11 @@ reach-edges-spec =
     sub-spot-of
     sub-spot-of-2
     spot-of-requires
-    mul-spot-of
-    add-spot-of
-    add-spot-of-2
+    east-requires
     spot-of-requires-2
     reach-pair-requires
     spot-of-requires-3
-    add-spot-of-3
+    add-spot-of
     spot-of-requires-4
     reach-pair-requires-2
     returns)

@@ -1,6 +1,7 @@
 -- `go_back` meets its contract. The invariant: spots are added, and none wrongly. The measure is the words left. Assumes nothing.
 use Prim.Native.Nat.{_-_, _≤_}
 use native.Mathlib.Omega.{arith}
+use Rattle.rows.specs.Rows.{cellsEnd, firstWord}
 use Rattle.flood.specs.Flood.{Within, Added}
 use Rattle.flood.proofs.Turns.{added-none, added-more, added-among}
 use Rattle.flood.proofs.Joining.{into-within}
@@ -9,7 +10,7 @@ use Rattle.flood.proofs.words.go_back.Tie as tie
 
 abbrev Inv-loop : tie.InvT-loop
 Inv-loop open-up open-down up₀ down₀ at₀ up down at =
-    (10 ≤ at) × (at ≤ 10320) × Added (Within 10320) open-up open-down up₀ down₀ up down
+    (firstWord ≤ at) × (at ≤ cellsEnd) × Added (Within cellsEnd) open-up open-down up₀ down₀ up down
 
 abbrev μ-loop : tie.MeasureT-loop
 μ-loop open-up open-down up₀ down₀ at₀ up down at = at

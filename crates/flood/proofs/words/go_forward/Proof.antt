@@ -2,6 +2,7 @@
 use Prim.Native.Nat.{_-_, _≤_}
 use mathlib.Core.Path.{_≡_}
 use native.Mathlib.Omega.{arith}
+use Rattle.rows.specs.Rows.{cellsEnd, firstWord}
 use Rattle.flood.specs.Flood.{Within}
 use Rattle.flood.specs.inside.Turns.{Turn}
 use Rattle.flood.proofs.Turns.{turn-none}
@@ -11,10 +12,10 @@ use Rattle.flood.proofs.words.go_forward.Tie as tie
 
 abbrev Inv-loop : tie.InvT-loop
 Inv-loop open-up open-down up₀ down₀ changed₀ at₀ up down changed at =
-    (10 ≤ at) × (at ≤ 10320) × Turn (Within at) open-up open-down up₀ down₀ up down changed
+    (firstWord ≤ at) × (at ≤ cellsEnd) × Turn (Within at) open-up open-down up₀ down₀ up down changed
 
 abbrev μ-loop : tie.MeasureT-loop
-μ-loop open-up open-down up₀ down₀ changed₀ at₀ up down changed at = 10320 - at
+μ-loop open-up open-down up₀ down₀ changed₀ at₀ up down changed at = cellsEnd - at
 
 loop-holds : tie.Need-loop-holds Inv-loop μ-loop
 loop-holds c = (omega arith, omega arith, turn-none (λ s t i j m l o. absurd (omega (arith, m .1, m .2))))
@@ -36,7 +37,7 @@ loop-again c =
 returns : tie.Need-returns Inv-loop μ-loop
 returns c =
     let l = c .before .loop in
-    let e : l .at ≡ 10320 = omega arith in
+    let e : l .at ≡ cellsEnd = omega arith in
     rw e at (l .inv .2)
 
 pub go-forward-spec : {M : Type 1} → statement M

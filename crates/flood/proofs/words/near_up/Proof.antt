@@ -1,11 +1,10 @@
 -- `near_up` meets its contract: the word of the down cells, the one a row back and the one a place back, joined. Assumes nothing.
-use borrow.Author.Needs.{needs}
 use Prim.Native.Nat.{_+_, _-_}
 use mathlib.Core.Path.{_≡_}
 use native.Mathlib.Omega.{arith}
-use Rattle.stencil.proofs.Shifts.{word-last, word-on, word-or, on-bits}
+use borrow.Author.Needs.{needs}
+use Rattle.rows.proofs.Shifts.{word-read, word-last, word-on, word-or}
 use Rattle.flood.specs.inside.Turns.{nearUp}
-use Rattle.flood.proofs.Joining.{word-read}
 use Rattle.flood.proofs.words.near_up.Statement.{statement}
 use Rattle.flood.proofs.words.near_up.Tie as tie
 
@@ -24,19 +23,31 @@ sub-word-2 c = search needs
 word-requires-3 : tie.Need-word-requires-3
 word-requires-3 c κs = search needs
 
+one-on-requires : tie.Need-one-on-requires
+one-on-requires c κs = search needs
+
 returns : tie.Need-returns
 unfolding nearUp
 returns c =
-    let l = c .before in
+    let f = c .before in
+    let l = f .before in
     let h = l .before in
     let at = h .before .args .at in
     let five : at ≡ at - 5 + 5 = omega arith in
     let one : at ≡ at - 1 + 1 = omega arith in
     let d = h .before .args .down .now in
     let here = word-read d at (h .word .ensures) in
-    let on = word-on one (on-bits (h .word .result) (c .word3 .result) (omega arith)) here (word-read d (at - 1) (c .word3 .ensures)) in
+    let on = word-on one (c .one-on .ensures) here (word-read d (at - 1) (f .word3 .ensures)) in
     word-or here (word-or (word-last five (word-read d (at - 5) (l .word2 .ensures))) on)
 
 pub near-up-spec : {M : Type 1} → statement M
 near-up-spec =
-    tie.close (tie.spec word-requires sub-word word-requires-2 sub-word-2 word-requires-3 returns)
+    tie.close
+    (tie.spec
+    word-requires
+    sub-word
+    word-requires-2
+    sub-word-2
+    word-requires-3
+    one-on-requires
+    returns)

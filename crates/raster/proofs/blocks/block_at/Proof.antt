@@ -11,7 +11,7 @@ use Rattle.cell.specs.declared.Kind.the-variants.{Up, Down}
 use Rattle.cell.specs.Cell.{placeOf, saidPlace}
 use Rattle.cell.proofs.Answers.{Given, given-place, accepts}
 use Rattle.raster.specs.Raster.{cellLit}
-use Rattle.raster.specs.inside.Squares.{quarterOf, squares, seatBit}
+use Rattle.square.specs.Square.{quarterOf, squares, seatBit}
 use Rattle.raster.proofs.Held.{kind-told}
 use Rattle.raster.proofs.Placed.{block-small, seat-read, squareOf, both-empty, kind-cases, gathered-up, gathered-down}
 use Rattle.raster.proofs.blocks.block_at.Statement.{statement}

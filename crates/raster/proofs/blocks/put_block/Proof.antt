@@ -13,7 +13,8 @@ use Rattle.cell.specs.Cell.{placeOf, saidPlace, triangleOf}
 use Rattle.cell.proofs.Answers.{Given, given-place, accepts}
 use Rattle.rows.specs.Rows.{lit}
 use Rattle.raster.specs.inside.Pieces.{piece, Added}
-use Rattle.raster.specs.inside.Squares.{inSquare, quarterOf, squares}
+use Rattle.square.specs.Square.{quarterOf, squares}
+use Rattle.raster.specs.inside.Squares.{inSquare}
 use Rattle.raster.proofs.Held.{kind-told}
 use Rattle.raster.proofs.Placed.{block-small, square-added}
 use Rattle.raster.proofs.blocks.put_block.Statement.{statement}
@@ -46,8 +47,8 @@ slot-of-requires c κs =
     let p = n .place .given .0 .0 in
     block-small (a .level) (a .level - 3) (a .block) (p .octant) (p .kind) (p .row) (p .col) (entry n .pre .1) (below n) (known n)
 
-spread-requires : tie.Need-spread-requires
-spread-requires c κs = search needs
+scatter-requires : tie.Need-scatter-requires
+scatter-requires c κs = search needs
 
 enum-told : tie.Need-enum-told
 enum-told c = search needs
@@ -83,9 +84,9 @@ enum-told-3 : tie.Need-enum-told-3
 enum-told-3 c = search needs
 
 -- a square of the word's cells, joined with the rows of its kind
-joined : (w : tie.After-spread) (t : Kind) → let n = w .before .before .before in n .place .given .0 .0 .kind ≡ t →
+joined : (w : tie.After-scatter) (t : Kind) → let n = w .before .before .before in n .place .given .0 .0 .kind ≡ t →
     let a = entry n .args in
-    let x = w .spread .result in
+    let x = w .scatter .result in
     (s : Kind) (r : ℕ) → ((p : ℕ) → p < 64 → bit r p ≡ bit (squares (x .«up_in_up») (x .«down_in_up») (x .«up_in_down») (x .«down_in_down») t s) (quarterOf p)) →
     (q z : List ℕ) → ((i : ℕ) → lit z i ≡ (lit q i || inSquare 8 (w .before .slot-of .result) r i)) →
     Added (triangleOf s) (a .level) (piece 64 (a .block) (λ y. bit (a .word) (y % 64))) q z
@@ -96,7 +97,7 @@ joined w t e =
     let p = n .place .given .0 .0 in
     let g = kind-told (a .level - 3) (a .block) (p .octant) (p .row) (p .col) (p .kind) t e (known n) in
     square-added (a .level) (a .level - 3) (a .block) (p .octant) t (p .row) (p .col) (entry n .pre .1) (below n) g (k .result) (k .ensures .0)
-    (a .word) _ (w .spread .ensures)
+    (a .word) _ (w .scatter .ensures)
 
 returns : tie.Need-returns
 unfolding squares
@@ -136,7 +137,7 @@ put-block-spec =
     place-of-requires
     enum-known-place
     slot-of-requires
-    spread-requires
+    scatter-requires
     enum-told
     in-rows-requires
     join-square-requires

@@ -1,4 +1,5 @@
 -- `is_cell_set` meets its contract: the cell's spot is looked up in the rows of its kind. Assumes nothing.
+use Prim.Native.Nat.{_<_}
 use mathlib.Core.Path.{_≡_, sym, ap, _∙_}
 use native.Mathlib.Omega.{arith}
 use borrow.Author.Needs.{needs}
@@ -7,6 +8,8 @@ use Rattle.cell.specs.declared.Kind.{Kind}
 use Rattle.cell.specs.declared.Kind.the-variants.{Up, Down}
 use Rattle.cell.specs.Cell.{placeOf, saidPlace, triangleOf}
 use Rattle.cell.proofs.Answers.{Given, given-place, accepts}
+use Rattle.rows.specs.Rows.{spotCount, spot}
+use Rattle.rows.proofs.Spots.{spot-told}
 use Rattle.raster.specs.Raster.{triangleLit, cellLit}
 use Rattle.raster.proofs.Held.{place-small, kind-told, cell-lit}
 use Rattle.raster.proofs.cells.is_cell_set.Statement.{statement}
@@ -26,9 +29,15 @@ known : (c : tie.After-place) → Given (entry c .args .level) (entry c .args .c
 known c = given-place _ _ _ (rw (c .place .given .1) at (c .before .before .place-of .ensures))
 
 spot-of-requires : tie.Need-spot-of-requires
-spot-of-requires c κs =
-    let p = c .before .place .given .0 .0 in
-    place-small (entry (c .before) .args .level) (p .kind) (p .octant) (p .row) (p .col) (omega arith) (known (c .before) .occurs)
+spot-of-requires c κs = search needs
+
+-- the spot that was computed
+spot-is : (s : tie.After-spot-of) → let p = s .before .before .place .given .0 .0 in (s .spot-of .result ≡ spot (p .octant) (p .row) (p .col)) × (s .spot-of .result < spotCount)
+spot-is s =
+    let n = s .before .before in
+    let p = n .place .given .0 .0 in
+    let b = place-small (entry n .args .level) (p .kind) (p .octant) (p .row) (p .col) (omega arith) (known n .occurs) in
+    spot-told (p .octant) (p .row) (p .col) (s .spot-of .ensures) (b .0) (omega arith) (omega arith)
 
 enum-told : tie.Need-enum-told
 enum-told c = search needs
@@ -60,13 +69,13 @@ returns : tie.Need-returns
 unfolding triangleLit
 returns c =
     let s = c .before .before .before in
-    c .is-set .ensures ∙ rw (s .spot-of .ensures .0) (sym (its-spot (s .before .before) Up (c .before .enum-told .given .1)))
+    c .is-set .ensures ∙ rw (spot-is s .0) (sym (its-spot (s .before .before) Up (c .before .enum-told .given .1)))
 
 returns-2 : tie.Need-returns-2
 unfolding triangleLit
 returns-2 c =
     let s = c .before .before .before in
-    c .is-set2 .ensures ∙ rw (s .spot-of .ensures .0) (sym (its-spot (s .before .before) Down (c .before .enum-told2 .given .1)))
+    c .is-set2 .ensures ∙ rw (spot-is s .0) (sym (its-spot (s .before .before) Down (c .before .enum-told2 .given .1)))
 
 returns-3 : tie.Need-returns-3
 returns-3 c =

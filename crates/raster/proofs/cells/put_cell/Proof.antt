@@ -1,5 +1,5 @@
 -- `put_cell` meets its contract: the set of one cell is at its spot, in the rows of its kind. Assumes nothing.
-use Prim.Native.Nat.{ℕ}
+use Prim.Native.Nat.{ℕ, _<_}
 use mathlib.Core.Path.{_≡_, sym, ap, _∙_}
 use mathlib.Core.Bool.{_&&_, _||_, or-false}
 use mathlib.Core.List.{List}
@@ -11,7 +11,9 @@ use Rattle.cell.specs.declared.Kind.{Kind}
 use Rattle.cell.specs.declared.Kind.the-variants.{Up, Down}
 use Rattle.cell.specs.Cell.{placeOf, saidPlace, triangleOf}
 use Rattle.cell.proofs.Answers.{Given, given-place, accepts}
-use Rattle.rows.specs.Rows.{lit, spot}
+use Rattle.rows.specs.Rows.{lit, spotCount, spot}
+use Rattle.rows.proofs.Spots.{spot-told}
+use Rattle.rows.proofs.Words.{set-here}
 use Rattle.raster.specs.inside.Pieces.{Added}
 use Rattle.raster.proofs.Held.{place-small, kind-told, sameKind, one-added}
 use Rattle.raster.proofs.cells.put_cell.Statement.{statement}
@@ -31,9 +33,15 @@ known : (c : tie.After-place) → Given (entry c .args .level) (entry c .args .c
 known c = given-place _ _ _ (rw (c .place .given .1) at (c .before .before .place-of .ensures))
 
 spot-of-requires : tie.Need-spot-of-requires
-spot-of-requires c κs =
-    let p = c .before .place .given .0 .0 in
-    place-small (entry (c .before) .args .level) (p .kind) (p .octant) (p .row) (p .col) (omega arith) (known (c .before) .occurs)
+spot-of-requires c κs = search needs
+
+-- the spot that was computed
+spot-is : (s : tie.After-spot-of) → let p = s .before .before .place .given .0 .0 in (s .spot-of .result ≡ spot (p .octant) (p .row) (p .col)) × (s .spot-of .result < spotCount)
+spot-is s =
+    let n = s .before .before in
+    let p = n .place .given .0 .0 in
+    let b = place-small (entry n .args .level) (p .kind) (p .octant) (p .row) (p .col) (omega arith) (known n .occurs) in
+    spot-told (p .octant) (p .row) (p .col) (s .spot-of .ensures) (b .0) (omega arith) (omega arith)
 
 enum-told : tie.Need-enum-told
 enum-told c = search needs
@@ -67,7 +75,7 @@ returns c =
     let n = s .before .before in
     let a = entry n .args in
     let at = at-spot n Up (c .before .before .enum-told .given .1) in
-    (at Up (a .up .now) _ (λ i. c .set-bit .ensures i ∙ rw (s .spot-of .ensures .0)), at Down (a .down .now) _ (λ i. sym (or-false _)))
+    (at Up (a .up .now) _ (λ i. c .set-bit .ensures i ∙ set-here (lit (a .up .now) i) i (s .spot-of .result) (spot-is s .1) ∙ rw (spot-is s .0)), at Down (a .down .now) _ (λ i. sym (or-false _)))
 
 returns-2 : tie.Need-returns-2
 returns-2 c =
@@ -75,7 +83,7 @@ returns-2 c =
     let n = s .before .before in
     let a = entry n .args in
     let at = at-spot n Down (c .before .before .enum-told2 .given .1) in
-    (at Up (a .up .now) _ (λ i. sym (or-false _)), at Down (a .down .now) _ (λ i. c .set-bit2 .ensures i ∙ rw (s .spot-of .ensures .0)))
+    (at Up (a .up .now) _ (λ i. sym (or-false _)), at Down (a .down .now) _ (λ i. c .set-bit2 .ensures i ∙ set-here (lit (a .down .now) i) i (s .spot-of .result) (spot-is s .1) ∙ rw (spot-is s .0)))
 
 returns-3 : tie.Need-returns-3
 returns-3 c =

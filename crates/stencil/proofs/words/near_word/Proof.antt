@@ -1,8 +1,10 @@
 -- `near_word` meets its contract: a row with the next, here and one place on, and with the last, here and one place back. Assumes nothing.
+use Prim.Native.Nat.{_+_, _-_}
 use mathlib.Core.Path.{refl}
 use native.Mathlib.Omega.{arith}
 use Rattle.rows.specs.Rows.{lit}
-use Rattle.stencil.proofs.Shifts.{word-next, word-last, word-on, word-back, word-or, word-same, near-joined}
+use Rattle.rows.proofs.Shifts.{word-read, word-next, word-last, word-on, word-back, word-or, word-same}
+use Rattle.stencil.proofs.Seven.{near-joined}
 use borrow.Author.Needs.{needs}
 use Rattle.stencil.proofs.words.near_word.Statement.{statement}
 use Rattle.stencil.proofs.words.near_word.Tie as tie
@@ -56,14 +58,15 @@ returns : tie.Need-returns
 returns c =
     let d = c .before .before .before .before in
     let a = d .before .before .before .before .before .args in
-    let here = d .before .before .before .before .word .ensures in
-    let next = word-or here (word-next refl (d .before .before .before .word2 .ensures)) in
-    let before = word-or (d .before .before .word3 .ensures) (word-next (omega arith) (d .before .word4 .ensures)) in
+    let s = a .points .now in
+    let here = word-read s (a .w) (d .before .before .before .before .word .ensures) in
+    let next = word-or here (word-next refl (word-read s (a .w + 5) (d .before .before .before .word2 .ensures))) in
+    let before = word-or (word-read s (a .w - 1) (d .before .before .word3 .ensures)) (word-next (omega arith) (word-read s (a .w + 4) (d .before .word4 .ensures))) in
     let on = word-on (omega arith) (d .one-on .ensures) next before in
-    let last = word-or here (word-last (omega arith) (c .before .before .before .word5 .ensures)) in
-    let after = word-or (c .before .before .word6 .ensures) (word-last (omega arith) (c .before .word7 .ensures)) in
+    let last = word-or here (word-last (omega arith) (word-read s (a .w - 5) (c .before .before .before .word5 .ensures))) in
+    let after = word-or (word-read s (a .w + 1) (c .before .before .word6 .ensures)) (word-last (omega arith) (word-read s (a .w - 4) (c .before .word7 .ensures))) in
     let back = word-back refl (c .one-back .ensures) last after in
-    word-same (λ i h. near-joined (lit (a .points .now)) i (omega arith)) (word-or (word-or next on) (word-or last back))
+    word-same (λ i h. near-joined (lit s) i (omega arith)) (word-or (word-or next on) (word-or last back))
 
 pub near-word-spec : {M : Type 1} → statement M
 near-word-spec =
