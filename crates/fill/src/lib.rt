@@ -29,7 +29,7 @@ fn fill_tests(level: u32, border: &[u8], outside: CellNumber, out: &[u8]) -> Out
     if mask::MAX_MASK_LEVEL < level {
         return Outcome::Refused(refusal::LEVEL);
     }
-    if 8 <= outside >> (2 * level) {
+    if !cell::is_cell(level, outside) {
         return Outcome::Refused(refusal::CELL);
     }
     let bytes = 1 << (2 * level);

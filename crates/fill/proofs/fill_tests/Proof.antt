@@ -5,7 +5,7 @@ use native.Mathlib.Omega.{arith}
 use borrow.Author.Tests.{lt-ltb, le-ltb, le-leb, lt-leb, eq-eqb, ne-eqb}
 use lib.ListN.{length}
 use Rattle.cell.specs.Cell.{cells}
-use Rattle.cell.proofs.Laws.{past-level, below-level}
+use Rattle.cell.proofs.Laws.{no-cell, a-cell}
 use Rattle.mask.specs.Mask.{maxMaskLevel}
 use Rattle.mask.proofs.Laws.{level-shifted}
 use borrow.Author.Needs.{needs}
@@ -15,25 +15,22 @@ use Rattle.fill.proofs.fill_tests.Tie as tie
 returns : tie.Need-returns
 returns c = simp (lt-ltb maxMaskLevel (c .before .before .before .args .level) (omega arith))
 
-mul-if2 : tie.Need-mul-if2
-mul-if2 c = search needs
-
-shr-if2 : tie.Need-shr-if2
-shr-if2 c = search needs
+is-cell-requires : tie.Need-is-cell-requires
+is-cell-requires c κs = search needs
 
 returns-2 : tie.Need-returns-2
 returns-2 c =
-    let a = c .before .before .before .before .args in
-    simp (le-ltb maxMaskLevel (a .level) (omega arith), le-leb _ _ (past-level (a .level) (a .outside) (c .if2 .taken)))
+    let a = c .before .before .before .before .before .args in
+    simp (le-ltb maxMaskLevel (a .level) (omega arith), le-leb _ _ (no-cell _ (a .level) (a .outside) (c .before .is-cell .ensures) (c .if2 .taken)))
 
 abbrev entry : tie.Else2 → tie.Start
-entry c = c .before .before .before .before
+entry c = c .before .before .before .before .before
 
 low : (c : tie.Else2) → entry c .args .level ≤ maxMaskLevel
 low c = omega arith
 
 in-range : (c : tie.Else2) → entry c .args .outside < cells (entry c .args .level)
-in-range c = below-level (entry c .args .level) (entry c .args .outside) (c .if2 .left)
+in-range c = a-cell _ (entry c .args .level) (entry c .args .outside) (c .before .is-cell .ensures) (c .if2 .left)
 
 mul-bytes : tie.Need-mul-bytes
 mul-bytes c = search needs
@@ -86,8 +83,7 @@ fill-tests-spec =
     tie.close
     (tie.spec
     returns
-    mul-if2
-    shr-if2
+    is-cell-requires
     returns-2
     mul-bytes
     cast-bytes
