@@ -8,7 +8,7 @@ use lib.IntN.{pos}
 use lib.ListN.{length, replicate}
 use Rattle.refusal.specs.Answer.{Answer, inOrder, lending}
 use Rattle.refusal.specs.Tests.{badLevel, badLength}
-use Rattle.cell.specs.Cell.{up, Place, place, maxLevel, cells, badCell}
+use Rattle.cell.specs.Cell.{up, Place, place, maxLevel, cells, noCell, badCell}
 use Rattle.code.specs.Neighbours.{isDirect}
 use Rattle.corner.specs.Corner.{Point, coordinate, corners, among, touches}
 
@@ -48,7 +48,7 @@ Tip x =
 
 -- what an unused place of the list's slice holds
 abbrev pub unused : ℕ
-unused = 4294967295
+unused = noCell
 
 -- a list in a slice of exactly 12
 unfoldable pub padded : List ℕ → List ℕ

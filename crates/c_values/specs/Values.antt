@@ -3,6 +3,7 @@
 use Prim.Native.Nat.{ℕ}
 use lib.Ieee.{Float, nan}
 use Rattle.refusal.specs.Answer.{Answer, given, refused}
+use Rattle.cell.specs.Cell.{noCell}
 use Rattle.mask.specs.Mask.{Inclusion, within, lacks}
 use Rattle.chart.specs.Chart.{Reading, fresh, carried, gap}
 
@@ -30,7 +31,7 @@ inC f (refused n) = refused n
 
 -- within as one number: the lowest cell that is in the first mask and not in the second, or 4,294,967,295
 abbrev pub lackingCell : Inclusion → ℕ
-lackingCell within = 4294967295
+lackingCell within = noCell
 lackingCell (lacks c) = c
 
 -- a reading as kind, temperature and days: 0 fresh, 1 carried, 2 gap, which has a NaN and 255 days

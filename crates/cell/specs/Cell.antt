@@ -98,6 +98,10 @@ maxLevel = 14
 abbrev pub cells : ℕ → ℕ
 cells k = 8 * 4 ^ k
 
+-- what stands where there is no cell: in an unused place of a list, and in C as the answer that no cell lacks
+abbrev pub noCell : ℕ
+noCell = 4294967295
+
 -- 4: the cell number is not below 8 × 4^k; or no cell of the level has that place
 abbrev pub badCell : ℕ → ℕ → Test
 badCell k n = 4 when leb (cells k) n

@@ -9,7 +9,7 @@ use mask::WithinAnswer;
 use refusal::Outcome;
 
 // What `within` answers when every cell of the first mask is in the second.
-const WITHIN: u32 = 4_294_967_295;
+const WITHIN: u32 = cell::NO_CELL;
 
 #[no_mangle]
 pub extern "C" fn ticklocust_grow(

@@ -6,6 +6,7 @@ ghost use lib.ListN.{length, getD};
 ghost use Rattle.cell.specs.Cell.{Occurs, placeOf, maxLevel};
 ghost use Rattle.touch.specs.inside.Inner.{isInner, innerWay, innerStep, other, stepped, innerCell};
 use crate::cube;
+use cell::CellNumber;
 use cell::Kind;
 use cell::Place;
 
@@ -81,7 +82,7 @@ fn place_at(place: Place, i: usize) -> Place
 }
 
 // Touching cell i of the twelve.
-fn cell_at(level: u32, place: Place, i: usize) -> u32
+fn cell_at(level: u32, place: Place, i: usize) -> CellNumber
     requires { ⌜ (level ≤ maxLevel) × Occurs level (placeOf place) × (isInner level (placeOf place .1) ≡ true) × (i < 12) ⌝ }
     ensures { λ n. ⌜ n ≡ innerCell level place i ⌝ }
 {
@@ -89,7 +90,7 @@ fn cell_at(level: u32, place: Place, i: usize) -> u32
 }
 
 // Fills a slice with the twelve cells that touch a cell away from its octant's edges.
-pub(crate) fn fill(level: u32, place: Place, found: &mut [u32])
+pub(crate) fn fill(level: u32, place: Place, found: &mut [CellNumber])
     requires { ⌜ (level ≤ maxLevel) × Occurs level (placeOf place) × (isInner level (placeOf place .1) ≡ true) × (length (now found) ≡ 12) ⌝ }
     ensures { λ _. ⌜ ((i : ℕ) → i < 12 → getD (now (found .exit)) i 0 ≡ innerCell level place i) ⌝ }
 {
