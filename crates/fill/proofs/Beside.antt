@@ -16,8 +16,7 @@ use Rattle.code.specs.Neighbours.{direct, directCode, isDirect}
 use Rattle.code.proofs.Laws.{Inner, up-t, up-l, up-r, up-e, up-w, down-t, down-l, down-r, down-e, down-w}
 use Rattle.code.proofs.Laws.{Move, stay, over-T, over-E, over-W, step-move, move-step, code-step}
 use Rattle.rows.specs.Rows.{cellsEnd, spot}
-use Rattle.rows.proofs.Spots.{spot-same}
-use Rattle.flood.proofs.Crossing.{size-low}
+use Rattle.rows.proofs.Spots.{spot-same, size-low}
 use Rattle.flood.specs.Flood.{Beside, down-here, down-back, down-last, up-here, up-on, up-next, Within, Edges, Over, Near}
 
 -- ---- direct neighbours as moves

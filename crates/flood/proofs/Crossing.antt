@@ -1,5 +1,5 @@
 -- Steps over edges, from one of two spots to the other, and one family of steps after the other. Assumes nothing.
-use Prim.Native.Nat.{ℕ, _+_, _*_, _-_, _/_, _%_, _^_, _≤_, _<_}
+use Prim.Native.Nat.{ℕ, _+_, _*_, _-_, _/_, _%_, _^_, _<_}
 use mathlib.Core.Path.{_≡_, refl, sym, ap, ap₂, subst, _∙_}
 use mathlib.Core.Bool.{Bool, true, false, _||_}
 use mathlib.Core.List.{List}
@@ -9,27 +9,16 @@ use native.Mathlib.Numerals.{add-one}
 use native.Mathlib.Omega.{arith}
 use borrow.Author.Tests.{eqb-true, eq-eqb}
 use lib.Dec.{eqb}
-use lib.Pow.{pow-mono}
 use Rattle.refusal.proofs.Tests.{clash}
 use Rattle.bitset.specs.Bits.{bit}
 use Rattle.bitset.proofs.Laws.{bit-pow, shifted}
 use Rattle.cell.specs.declared.Kind.{Kind}
 use Rattle.cell.specs.declared.Kind.the-variants.{Up}
-use Rattle.mask.specs.Mask.{maxMaskLevel}
 use Rattle.rows.specs.Rows.{lit, spot, east}
 use Rattle.flood.specs.Flood.{litOf, Pair, Edges}
 use Rattle.flood.specs.inside.Turns.{Joined, One, Turn}
 use Rattle.flood.proofs.Turns.{turn-none, turn-join}
 use Rattle.flood.proofs.Joining.{turn-up}
-
--- ---- the size of a level
-
--- N as the code shifts it, and that it is small
-pub size-shifted : (k : ℕ) → k ≤ maxMaskLevel → 1 * 2 ^ k % 2 ^ 32 ≡ 2 ^ k
-size-shifted k h = shifted 32 k (omega arith)
-
-pub size-low : (k : ℕ) → k ≤ maxMaskLevel → 2 ^ k ≤ 256
-size-low k h = pow-mono {i = k} {j = 8} h
 
 -- ---- from one spot to another
 

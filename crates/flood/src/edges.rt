@@ -8,9 +8,6 @@ ghost use Rattle.flood.specs.inside.Turns.{One, Turn};
 use crate::words;
 use rows::Rows;
 
-// The number of octants.
-const OCTANTS: u32 = 8;
-
 // Reaches one spot, where it is open and another is reached. Answers whether that changed anything.
 fn reach_one(from: u32, to: u32, open_up: &Rows, up: &mut Rows) -> bool
     requires { ⌜ (from < spotCount) × (to < spotCount) ⌝ }
@@ -74,7 +71,7 @@ pub(crate) fn reach_over(level: u32, open_up: &Rows, up: &mut Rows) -> bool
 {
     let mut changed = false;
     let mut octant = 0;
-    while octant < OCTANTS {
+    while octant < rows::OCTANTS {
         changed = changed | reach_octant(level, octant, open_up, up);
         octant += 1;
     }

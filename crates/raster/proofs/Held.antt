@@ -6,7 +6,6 @@ use mathlib.Core.List.{List}
 use native.Mathlib.Omega.{arith}
 use borrow.Author.Tests.{lt-ltb, le-leb, eq-eqb, ltb-true, leb-true, eqb-true}
 use lib.Dec.{leb, ltb, eqb}
-use lib.Pow.{pow-mono}
 use Rattle.refusal.proofs.Tests.{same-test, clash, both, parts}
 use Rattle.cell.specs.declared.Kind.{Kind}
 use Rattle.cell.specs.declared.Kind.the-variants.{Up, Down}
@@ -14,7 +13,7 @@ use Rattle.cell.specs.Cell.{triangleOf, up, down, span, Place, place, number, O
 use Rattle.cell.proofs.Laws.{place-occurs, place-number, number-place, number-below, triangle-bounds}
 use Rattle.cell.proofs.Answers.{Given}
 use Rattle.rows.specs.Rows.{lit, spot, octantAt, rowAt, colAt}
-use Rattle.rows.proofs.Spots.{spot-again}
+use Rattle.rows.proofs.Spots.{spot-again, size-low}
 use Rattle.raster.specs.Raster.{cellAt, triangleLit, cellLit}
 use Rattle.raster.specs.inside.Pieces.{Added}
 
@@ -23,7 +22,7 @@ use Rattle.raster.specs.inside.Pieces.{Added}
 -- row and column of a cell of a level to 8 are below 256
 pub place-small : (k : ℕ) (t : Kind) (o a b : ℕ) → k ≤ 8 → Occurs k (o, triangleOf t a b) → (o < 8) × (a < 256) × (b < 256)
 place-small k t o a b h c =
-    let m : 2 ^ k ≤ 2 ^ 8 = pow-mono {i = k} {j = 8} h in
+    let m = size-low k h in
     let w = triangle-bounds t a b (2 ^ k) (c .1) in
     (c .0, omega arith, omega arith)
 

@@ -1,11 +1,12 @@
 -- Spots and their octants, rows and columns. Assumes nothing.
-use Prim.Native.Nat.{ℕ, _+_, _-_, _^_, _≤_, _<_}
+use Prim.Native.Nat.{ℕ, _+_, _*_, _-_, _%_, _^_, _≤_, _<_}
 use mathlib.Core.Path.{_≡_, _∙_}
 use mathlib.Core.Bool.{true, and-false}
 use native.Mathlib.Omega.{arith}
 use lib.Pow.{pow-mono}
 use lib.Dec.{leb, ltb}
 use borrow.Author.Tests.{le-leb, lt-ltb, le-ltb, leb-true, ltb-true}
+use Rattle.bitset.proofs.Laws.{shifted}
 use Rattle.refusal.proofs.Tests.{both, parts}
 use Rattle.rows.specs.Rows.{spotCount, octantRows, rowSpots, spot, spotIn, octantAt, rowAt, colAt, inside}
 
@@ -42,9 +43,16 @@ inside-is k i e =
     let q = parts _ _ (p .1) in
     record { octant = ltb-true _ _ (q .0); sum = leb-true _ _ (q .1); again = spot-again i (leb-true 640 i (p .0)) }
 
+-- the parts of an octant's edge at a level to 8, as the code shifts them, and that they are at most 256
+pub size-shifted : (k : ℕ) → k ≤ 8 → 1 * 2 ^ k % 2 ^ 32 ≡ 2 ^ k
+size-shifted k h = shifted 32 k (omega arith)
+
+pub size-low : (k : ℕ) → k ≤ 8 → 2 ^ k ≤ 256
+size-low k h = pow-mono {i = k} {j = 8} h
+
 -- row and column of a point of a level to 8 are at most 256
 pub small : (k t r : ℕ) → k ≤ 8 → t + r ≤ 2 ^ k → (t < octantRows) × (r < rowSpots)
-small k t r h l = let m : 2 ^ k ≤ 2 ^ 8 = pow-mono {i = k} {j = 8} h in omega arith
+small k t r h l = let m = size-low k h in omega arith
 
 pub inside-spot : (k o t r : ℕ) → k ≤ 8 → o < 8 → t + r ≤ 2 ^ k → inside k (spot o t r) ≡ true
 unfolding inside

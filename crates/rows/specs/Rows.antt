@@ -58,4 +58,4 @@ colAt i = i % rowSpots
 
 -- whether a spot is that of a point of level k: T + R ≤ N
 unfoldable pub inside : ℕ → ℕ → Bool
-inside k i = leb 640 i && (ltb (octantAt i) 8 && leb (rowAt i + colAt i) (2 ^ k))
+inside k i = leb (64 * firstWord) i && (ltb (octantAt i) 8 && leb (rowAt i + colAt i) (2 ^ k))

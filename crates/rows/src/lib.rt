@@ -14,13 +14,13 @@ pub const WORDS: usize = 10330;
 pub type Rows = [u64; WORDS];
 
 // The bits of one set of rows.
-pub const SPOTS: u32 = 661120;
+const SPOTS: u32 = 661120;
 
 // The rows of an octant.
 pub const OCTANT_ROWS: u32 = 258;
 
 // The bits of a row.
-pub const ROW_SPOTS: u32 = 320;
+const ROW_SPOTS: u32 = 320;
 
 // The first word of the first row of octant 0.
 pub const FIRST: usize = 10;
@@ -29,7 +29,7 @@ pub const FIRST: usize = 10;
 pub const CELLS_END: usize = 10320;
 
 // The number of octants.
-const OCTANTS: u32 = 8;
+pub const OCTANTS: u32 = 8;
 
 // The spot of an octant's row and column. Where there is no such row or column, that is the first past all bits.
 pub fn spot_of(octant: u32, row: u32, col: u32) -> u32

@@ -2,11 +2,11 @@
 use Prim.Native.Nat.{ℕ, _^_, _≤_}
 use mathlib.Core.Path.{_≡_, refl, sym, ap, _∙_}
 use mathlib.Core.Bool.{Bool, true, false}
-use lib.Pow.{pow-mono, pow-pos}
+use lib.Pow.{pow-pos}
 use Rattle.refusal.proofs.Tests.{same-test}
 use Rattle.corner.specs.Corner.{Point}
 use Rattle.rows.specs.Rows.{octantAt, rowAt, colAt, inside}
-use Rattle.rows.proofs.Spots.{inside-is}
+use Rattle.rows.proofs.Spots.{inside-is, size-low}
 use Rattle.seam.specs.Seam.{pointAt, joined}
 use Rattle.seam.specs.declared.edges.Edge.{Edge}
 use Rattle.seam.specs.declared.edges.Edge.the-variants.{Meridian, Beside, Across, Equator}
@@ -31,7 +31,7 @@ module _ (k : ℕ) (h : k ≤ 8) (P : ℕ → Bool) where
   unfolding pointAt
   all-home i l =
       let n = inside-is k i l in
-      let m : 2 ^ k ≤ 2 ^ 8 = pow-mono {i = k} {j = 8} h in
+      let m = size-low k h in
       ap (all (2 ^ k) P) (sym (n .again))
       ∙ home-closed k (all (2 ^ k) P) (all-closed (2 ^ k) m (pow-pos k) P) (octantAt i) (rowAt i) (colAt i) (n .octant) (n .sum)
 

@@ -6,21 +6,16 @@ use mathlib.Core.Logic.{_⊎_, inl, inr, ⊎-elim}
 use native.Mathlib.Nat.{le-trans}
 use native.Mathlib.Omega.{arith}
 use lib.Dec.{leb, ltb}
-use lib.Pow.{pow-mono}
 use borrow.Author.Tests.{leb-true, ltb-true, le-leb, lt-ltb}
 use Rattle.refusal.proofs.Tests.{clash, both, parts, left, right, cases}
 use Rattle.cell.specs.Cell.{Triangle, up, down, span, Place, place, number, Occurs}
 use Rattle.cell.proofs.Laws.{place-occurs, place-number, number-place, number-below}
 use Rattle.rows.specs.Rows.{spot, octantAt, rowAt, colAt, inside}
-use Rattle.rows.proofs.Spots.{spot-again, spot-octant, spot-row, spot-col, spot-same, inside-is, inside-spot}
+use Rattle.rows.proofs.Spots.{spot-again, spot-octant, spot-row, spot-col, spot-same, inside-is, inside-spot, size-low}
 use Rattle.raster.specs.Raster.{cellAt}
 use Rattle.stencil.specs.Stencil.{pointsOf, inRows}
 use Rattle.spread.specs.Spread.{HasCorner, CellWith, Corners}
 use Rattle.spread.proofs.Triangles.{corner-within}
-
--- N is at most 256
-pub rows-256 : (k : ℕ) → k ≤ 8 → 2 ^ k ≤ 256
-rows-256 k h = pow-mono {i = k} {j = 8} h
 
 -- ---- the spot of a cell
 
@@ -125,11 +120,11 @@ module _ (k : ℕ) (A U D : ℕ → Bool) (us : (i : ℕ) → U i ≡ cellAt up 
     -- the cell's own spot is set
     own-up : (o a b : ℕ) → Occurs k (o, up a b) → A (number k (o, up a b)) ≡ true → (i : ℕ) → i ≡ spot o a b → U i ≡ true
     unfolding span
-    own-up o a b l e i q = us i ∙ subst (λ (x : ℕ). cellAt up k A x ≡ true) (sym q) (cell-in up k A o a b (omega (arith, rows-256 k h)) (omega (arith, rows-256 k h)) l e)
+    own-up o a b l e i q = us i ∙ subst (λ (x : ℕ). cellAt up k A x ≡ true) (sym q) (cell-in up k A o a b (omega (arith, size-low k h)) (omega (arith, size-low k h)) l e)
 
     own-down : (o a b : ℕ) → Occurs k (o, down a b) → A (number k (o, down a b)) ≡ true → (i : ℕ) → i ≡ spot o a b → D i ≡ true
     unfolding span
-    own-down o a b l e i q = ds i ∙ subst (λ (x : ℕ). cellAt down k A x ≡ true) (sym q) (cell-in down k A o a b (omega (arith, rows-256 k h)) (omega (arith, rows-256 k h)) l e)
+    own-down o a b l e i q = ds i ∙ subst (λ (x : ℕ). cellAt down k A x ≡ true) (sym q) (cell-in down k A o a b (omega (arith, size-low k h)) (omega (arith, size-low k h)) l e)
 
     at-place : (o : ℕ) (f : Triangle) (t r : ℕ) → Occurs k (o, f) → A (number k (o, f)) ≡ true → HasCorner f t r → pointsOf U D (spot o t r) ≡ true
     unfolding pointsOf
@@ -159,7 +154,7 @@ module _ (k : ℕ) (A U D : ℕ → Bool) (us : (i : ℕ) → U i ≡ cellAt up 
 -- spots of the rows
 pub in-rows : (k o t r : ℕ) → k ≤ 8 → o < 8 → t + r ≤ 2 ^ k → inRows (spot o t r) ≡ true
 in-rows k o t r h l m =
-    let b = rows-256 k h in
+    let b = size-low k h in
     both (leb 640 (spot o t r)) (ltb (spot o t r) 660800) (le-leb 640 (spot o t r) (omega arith)) (lt-ltb (spot o t r) 660800 (omega arith))
 
 -- what is written in the rows, where what is past them was clear
@@ -188,7 +183,7 @@ corners-of k A U D P R h us ds f z = record { only = only; out = out; all = all 
     out o t r l m e =
         let c = found (spot o t r) e in
         let n = with-inside k A (c .0) (c .1) (c .2) (c .4) in
-        let b = rows-256 k h in
+        let b = size-low k h in
         let q = spot-same (c .0) (c .1) (c .2) o t r (omega arith) (omega arith) (omega arith) (omega arith) (sym (c .3)) in
         subst (λ (x : ℕ). CellWith k A x t r) (q .0)
         (subst (λ (x : ℕ). CellWith k A (c .0) x r) (q .1)

@@ -17,7 +17,7 @@ use Rattle.corner.specs.Corner.{Point, corner, corners, samePoint, among, touch
 use Rattle.corner.proofs.Common.{among-index, index-among, samePoint-refl, common-meeting, meeting-common}
 use Rattle.walk.specs.Reach.{grown}
 use Rattle.rows.specs.Rows.{lit, spot, octantAt, rowAt, colAt, inside}
-use Rattle.rows.proofs.Spots.{inside-is, inside-spot, spot-octant, spot-row, spot-col, small}
+use Rattle.rows.proofs.Spots.{inside-is, inside-spot, spot-octant, spot-row, spot-col, small, size-low}
 use Rattle.raster.specs.Raster.{triangleLit, cellLit}
 use Rattle.seam.specs.Seam.{pointAt, joined}
 use Rattle.seam.proofs.Laws.{same-corner, joined-out, joined-in, joined-stays}
@@ -26,7 +26,7 @@ use Rattle.spread.specs.Spread.{HasCorner, CellWith, CellAt, Corners, Po
 use Rattle.spread.proofs.Touching.{one-in, one-out}
 use Rattle.spread.proofs.Triangles.{corner-at, corner-index, corner-within}
 use Rattle.spread.proofs.Beside.{Beside, near-in, near-out, corners-beside, beside-triangle}
-use Rattle.spread.proofs.Cells.{rows-256, with-corner, with-inside, in-rows, written}
+use Rattle.spread.proofs.Cells.{with-corner, with-inside, in-rows, written}
 
 -- ---- points and corners
 
@@ -143,7 +143,7 @@ stepped-with k P A h s o g t r t′ r′ l c c′ p =
 beside-stepped : (k : ℕ) (P A : ℕ → Bool) → k ≤ 8 → Points k P A → (o t r o′ t′ r′ : ℕ) → o < 8 → t + r ≤ 2 ^ k → t′ + r′ ≤ 2 ^ k →
     Beside (spot o t r) (spot o′ t′ r′) → P (spot o′ t′ r′) ≡ true → CellWith k (Stepped k A) o t r
 beside-stepped k P A h s o t r o′ t′ r′ l m m′ b p =
-    let q = beside-triangle (2 ^ k) o t r o′ t′ r′ (one-le-pow k 2 (omega arith)) (rows-256 k h) m m′ b in
+    let q = beside-triangle (2 ^ k) o t r o′ t′ r′ (one-le-pow k 2 (omega arith)) (size-low k h) m m′ b in
     stepped-with k P A h s o (q .1 .0) t r t′ r′ (l, q .1 .1) (q .1 .2) (q .1 .3) (subst (λ (x : ℕ). P (spot x t′ r′) ≡ true) (sym (q .0)) p)
 
 -- what is near the points of a set's cells, within the level: the corners of the cells one touching step on
@@ -182,7 +182,7 @@ module _ (k : ℕ) (P A : ℕ → Bool) (h : k ≤ 8) (s : Points k P A) (W Q R 
 -- spots of cells are in the rows of cells
 in-cell-rows : (k o a b : ℕ) → k ≤ 8 → o < 8 → a + b < 2 ^ k → inCellRows (spot o a b) ≡ true
 in-cell-rows k o a b h l m =
-    let n = rows-256 k h in
+    let n = size-low k h in
     both (leb 640 (spot o a b)) (ltb (spot o a b) 660480) (le-leb 640 (spot o a b) (omega arith)) (lt-ltb (spot o a b) 660480 (omega arith))
 
 module _ (P : ℕ → Bool) (o a b : ℕ) where

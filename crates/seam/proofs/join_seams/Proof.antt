@@ -1,13 +1,12 @@
 -- `join_seams` meets its contract: the four groups of pairs joined are the seams joined, and above level 8 nothing is done. Assumes nothing.
 use Prim.Native.Nat.{ℕ, _*_, _%_, _^_, _≤_}
-use mathlib.Core.Path.{_≡_, ap, _∙_}
+use mathlib.Core.Path.{ap, _∙_}
 use mathlib.Core.Bool.{Bool}
 use native.Mathlib.Omega.{arith}
 use borrow.Author.Needs.{needs}
 use borrow.Author.Tests.{le-leb, lt-leb}
-use lib.Pow.{pow-mono}
-use Rattle.bitset.proofs.Laws.{shifted}
 use Rattle.rows.specs.Rows.{lit}
+use Rattle.rows.proofs.Spots.{size-shifted, size-low}
 use Rattle.seam.specs.declared.edges.Edge.the-variants.{Beside, Across, Equator}
 use Rattle.seam.proofs.Closed.{group}
 use Rattle.seam.proofs.Seams.{all-joined}
@@ -20,12 +19,8 @@ returns c i = rw (lt-leb (c .before .args .level) 8 (omega arith))
 shl-size : tie.Need-shl-size
 shl-size c = search needs
 
--- the size as the code shifts it
-size-is : (level : ℕ) → level ≤ 8 → 1 * 2 ^ level % 2 ^ 32 ≡ 2 ^ level
-size-is level h = shifted 32 level (omega arith)
-
 size-small : (level : ℕ) → level ≤ 8 → 1 * 2 ^ level % 2 ^ 32 ≤ 256
-size-small level h = rw (size-is level h) (pow-mono {i = level} {j = 8} h)
+size-small level h = rw (size-shifted level h) (size-low level h)
 
 join-edge-requires : tie.Need-join-edge-requires
 join-edge-requires c κs = let e = c .before in size-small (e .before .args .level) (omega arith)
@@ -51,7 +46,7 @@ returns-2 c i =
     c .join-edge4 .ensures
     ∙ ap (group Equator n) (c3 .join-edge3 .ensures ∙ ap (group Across n) (c2 .join-edge2 .ensures ∙ ap (group Beside n) (c1 .join-edge .ensures))) in
     let h : k ≤ 8 = omega arith in
-    rw (le-leb k 8 h) (ap (λ (Q : ℕ → Bool). Q i) (rw (size-is k h) at f) ∙ all-joined k h (lit (e .before .args .points .now)) i)
+    rw (le-leb k 8 h) (ap (λ (Q : ℕ → Bool). Q i) (rw (size-shifted k h) at f) ∙ all-joined k h (lit (e .before .args .points .now)) i)
 
 pub join-seams-spec : {M : Type 1} → statement M
 join-seams-spec =

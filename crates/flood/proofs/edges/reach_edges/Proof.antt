@@ -5,8 +5,8 @@ use native.Mathlib.Omega.{arith}
 use borrow.Author.Needs.{needs}
 use lib.Pow.{pow-pos}
 use Rattle.rows.specs.Rows.{spotCount, spot, spotIn, east}
-use Rattle.rows.proofs.Spots.{spot-told}
-use Rattle.flood.proofs.Crossing.{size-shifted, size-low, turn-edges}
+use Rattle.rows.proofs.Spots.{size-shifted, size-low, spot-told}
+use Rattle.flood.proofs.Crossing.{turn-edges}
 use Rattle.flood.proofs.edges.reach_edges.Statement.{statement}
 use Rattle.flood.proofs.edges.reach_edges.Tie as tie
 

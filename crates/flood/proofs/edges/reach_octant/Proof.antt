@@ -3,9 +3,10 @@ use Prim.Native.Nat.{ℕ, _*_, _-_, _%_, _^_, _≤_}
 use mathlib.Core.List.{List}
 use mathlib.Core.Path.{_≡_, subst}
 use native.Mathlib.Omega.{arith}
+use Rattle.rows.proofs.Spots.{size-shifted, size-low}
 use Rattle.flood.specs.Flood.{Edges, EdgesOf}
 use Rattle.flood.specs.inside.Turns.{Turn}
-use Rattle.flood.proofs.Crossing.{size-shifted, size-low, turn-start, turn-next}
+use Rattle.flood.proofs.Crossing.{turn-start, turn-next}
 use Rattle.flood.proofs.edges.reach_octant.Statement.{statement}
 use Rattle.flood.proofs.edges.reach_octant.Tie as tie
 

@@ -13,7 +13,8 @@ use Rattle.cell.proofs.Answers.{Given, given-place, accepts}
 use Rattle.raster.specs.Raster.{cellLit}
 use Rattle.square.specs.Square.{quarterOf, squares, seatBit}
 use Rattle.raster.proofs.Held.{kind-told}
-use Rattle.raster.proofs.Placed.{block-small, seat-read, squareOf, both-empty, kind-cases, gathered-up, gathered-down}
+use Rattle.square.proofs.Places.{gathered-up, gathered-down}
+use Rattle.raster.proofs.Placed.{block-small, seat-read, squareOf, both-empty, kind-cases}
 use Rattle.raster.proofs.blocks.block_at.Statement.{statement}
 use Rattle.raster.proofs.blocks.block_at.Tie as tie
 

@@ -1,9 +1,8 @@
 -- `inside_word` meets its contract: none before the rows and where row and column are too much, else as many ones as are left. Assumes nothing.
-use Prim.Native.Nat.{_*_, _%_, _^_, _≤_}
+use Prim.Native.Nat.{_*_, _%_, _^_}
 use mathlib.Core.Path.{_≡_}
 use native.Mathlib.Omega.{arith}
-use lib.Pow.{pow-mono}
-use Rattle.bitset.proofs.Laws.{shifted}
+use Rattle.rows.proofs.Spots.{size-shifted, size-low}
 use Rattle.stencil.proofs.Level.{before-rows, past-sum, in-sum}
 use borrow.Author.Needs.{needs}
 use Rattle.stencil.proofs.words.inside_word.Statement.{statement}
@@ -11,7 +10,7 @@ use Rattle.stencil.proofs.words.inside_word.Tie as tie
 
 -- the level's size, as the code shifts it
 size-is : (e : tie.Start) → 1 * 2 ^ (e .args .level) % 2 ^ 32 ≡ 2 ^ (e .args .level)
-size-is e = shifted 32 (e .args .level) (omega arith)
+size-is e = size-shifted (e .args .level) (e .pre .0)
 
 returns : tie.Need-returns
 returns c = before-rows (c .before .args .level) (c .before .args .w) (omega arith)
@@ -41,7 +40,7 @@ add-low-ones : tie.Need-add-low-ones
 add-low-ones c =
     let k = c .before .before .args .level in
     let n = size-is (c .before .before) in
-    let m : 2 ^ k ≤ 2 ^ 8 = pow-mono {i = k} {j = 8} (omega arith) in
+    let m = size-low k (c .before .before .pre .0) in
     omega arith
 
 low-ones-requires : tie.Need-low-ones-requires
