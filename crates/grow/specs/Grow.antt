@@ -10,8 +10,11 @@ use Rattle.bitset.specs.Bits.{marked, bytesOf}
 use Rattle.cell.specs.Cell.{cells}
 use Rattle.corner.specs.Corner.{touches}
 use Rattle.mask.specs.Mask.{maxMaskLevel}
-use Rattle.walk.specs.Reach.{shrunk}
-pub use Rattle.dilate.specs.Dilate.{grownCells}
+use Rattle.walk.specs.Reach.{grown, shrunk}
+
+-- cells at most m touching steps from a cell of a set
+abbrev pub grownCells : ℕ → ℕ → (ℕ → Bool) → ℕ → Bool
+grownCells k m A = grown (cells k) (touches k) m A
 
 -- cells from which every cell within m touching steps is in a set
 abbrev pub shrunkCells : ℕ → ℕ → (ℕ → Bool) → ℕ → Bool
