@@ -9,26 +9,8 @@ use Rattle.bitset.proofs.Laws.{marking-past, marking-or, shifted}
 use Rattle.bitset.proofs.mark.Statement.{statement}
 use Rattle.bitset.proofs.mark.Tie as tie
 
-cast-at : tie.Need-cast-at
-cast-at c = search needs
-
 returns : tie.Need-returns
 returns c = let a = c .before .args in sym (marking-past (a .mask .now) (a .cell) (omega arith))
-
-slice-read-mask : tie.Need-slice-read-mask
-slice-read-mask c = search needs
-
-cast-mask : tie.Need-cast-mask
-cast-mask c = search needs
-
-shl-mask : tie.Need-shl-mask
-shl-mask c = search needs
-
-slice-write-mask : tie.Need-slice-write-mask
-slice-write-mask c = search needs
-
-same-length : tie.Need-same-length
-same-length c = search needs
 
 returns-2 : tie.Need-returns-2
 returns-2 c =
@@ -41,11 +23,11 @@ pub mark-spec : {M : Type 1} → statement M
 mark-spec =
     tie.close
     (tie.spec
-    cast-at
+    (λ c. search needs)
     returns
-    slice-read-mask
-    cast-mask
-    shl-mask
-    slice-write-mask
-    same-length
+    (λ c. search needs)
+    (λ c. search needs)
+    (λ c. search needs)
+    (λ c. search needs)
+    (λ c. search needs)
     returns-2)

@@ -8,15 +8,6 @@ use Rattle.border_reader.proofs.read.Tie as tie
 use Rattle.border_reader.proofs.walking.read_codes.Reads as read-codes-reads
 use Rattle.border_reader.proofs.header.read_header.Reads as read-header-reads
 
-read-header-requires : tie.Need-read-header-requires
-read-header-requires c κs = search needs
-
-enum-known-n : tie.Need-enum-known-n
-enum-known-n c = search needs
-
-enum-known-header : tie.Need-enum-known-header
-enum-known-header c = search needs
-
 read-codes-requires : tie.Need-read-codes-requires
 read-codes-requires c κs =
     let h = c .before .before in
@@ -26,9 +17,6 @@ returns : tie.Need-returns
 returns c =
     let a = c .before .before .before .before .before .before .args in
     header-refused (a .bytes .now) (a .cells .now) _ (sym (ap saidHeader (c .before .n .given .1)) ∙ c .before .before .before .read-header .ensures .0)
-
-same-length : tie.Need-same-length
-same-length c = search needs
 
 returns-2 : tie.Need-returns-2
 returns-2 c =
@@ -41,10 +29,10 @@ pub read-spec : {M : Type 1} → statement M
 read-spec =
     tie.close
     (tie.spec
-    read-header-requires
-    enum-known-n
-    enum-known-header
+    (λ c κs. search needs)
+    (λ c. search needs)
+    (λ c. search needs)
     read-codes-requires
     returns
-    same-length
+    (λ c. search needs)
     returns-2)

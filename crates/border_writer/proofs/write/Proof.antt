@@ -26,17 +26,8 @@ returns c = let a = c .before .before .before .args in level-high (a .level) (a 
 returns-2 : tie.Need-returns-2
 returns-2 c = let a = c .before .before .before .before .args in no-cells (a .level) (a .cells .now) (a .bytes .now) (omega arith) (omega arith)
 
-sub-count : tie.Need-sub-count
-sub-count c = search needs
-
-cast-if3 : tie.Need-cast-if3
-cast-if3 c = search needs
-
 returns-3 : tie.Need-returns-3
 returns-3 c = let a = c .before .before .before .before .before .args in too-many (a .level) (a .cells .now) (a .bytes .now) (omega arith) (omega arith) (omega arith)
-
-all-below-requires : tie.Need-all-below-requires
-all-below-requires c κs = search needs
 
 -- what the test of the cells says
 not-below : (s : tie.After-all-below) → s .all-below .result ≡ false →
@@ -54,23 +45,11 @@ returns-4 c =
     let a = c .before .before .before .before .before .before .before .args in
     cell-high (a .level) (a .cells .now) (a .bytes .now) (omega arith) (omega arith) (omega arith) (not-below (c .before) (not-true _ (c .if4 .taken)))
 
-slice-aggregate-find-codes : tie.Need-slice-aggregate-find-codes
-slice-aggregate-find-codes c = search needs
-
-find-codes-requires : tie.Need-find-codes-requires
-find-codes-requires c κs = search needs
-
 returns-5 : tie.Need-returns-5
 returns-5 c =
     let a = c .before .before .before .before .before .before .before .before .before .before .before .args in
     no-code (a .level) (a .cells .now) (a .bytes .now) (omega arith) (omega arith) (omega arith) (below (c .before .before .before .before))
     (found-none _ (sym (c .before .before .find-codes .ensures .0) ∙ not-true _ (c .if5 .taken)))
-
-shared-slice-read-put : tie.Need-shared-slice-read-put
-shared-slice-read-put c = search needs
-
-array-share-prefix-codes : tie.Need-array-share-prefix-codes
-array-share-prefix-codes c = search needs
 
 abbrev entry : tie.After-codes3 → tie.Start
 entry s = s .before .before .before .before .before .before .before .before .before .before .before .before .before
@@ -98,9 +77,6 @@ put-requires c κs =
     let s = c .before in
     (omega (arith, long s), codes-below _ _ _ (codes s) (there s))
 
-same-length : tie.Need-same-length
-same-length c = search needs
-
 returns-6 : tie.Need-returns-6
 returns-6 c =
     let s = c .before .before .before .before in
@@ -114,17 +90,17 @@ write-spec =
     (tie.spec
     returns
     returns-2
-    sub-count
-    cast-if3
+    (λ c. search needs)
+    (λ c. search needs)
     returns-3
-    all-below-requires
+    (λ c κs. search needs)
     returns-4
-    slice-aggregate-find-codes
-    find-codes-requires
+    (λ c. search needs)
+    (λ c κs. search needs)
     returns-5
-    shared-slice-read-put
-    array-share-prefix-codes
+    (λ c. search needs)
+    (λ c. search needs)
     slice-aggregate-put
     put-requires
-    same-length
+    (λ c. search needs)
     returns-6)

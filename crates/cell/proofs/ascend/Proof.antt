@@ -12,22 +12,10 @@ use Rattle.cell.proofs.DigitBits.{digits-bits-16}
 use Rattle.cell.proofs.ascend.Statement.{statement}
 use Rattle.cell.proofs.ascend.Tie as tie
 
-cast-row : tie.Need-cast-row
-cast-row c = search needs
-
-cast-col : tie.Need-cast-col
-cast-col c = search needs
-
-shl-all : tie.Need-shl-all
-shl-all c = search needs
-
 sub-all : tie.Need-sub-all
 sub-all c =
     let k = c .before .before .args .level in
     rw (shifted 64 k (omega arith)) (pow-pos k)
-
-span-of-requires : tie.Need-span-of-requires
-span-of-requires c κs = search needs
 
 -- what the bits are made of fits 16 bits
 record Small (c : tie.After-span-of) : Type 0 where
@@ -56,12 +44,6 @@ small c =
       col = omega arith;
     }
 
-mul-result : tie.Need-mul-result
-mul-result c = search needs
-
-shl-result : tie.Need-shl-result
-shl-result c = search needs
-
 join-requires : tie.Need-join-requires
 join-requires c κs =
     let s = small c in
@@ -82,13 +64,13 @@ pub ascend-spec : {M : Type 1} → statement M
 ascend-spec =
     tie.close
     (tie.spec
-    cast-row
-    cast-col
-    shl-all
+    (λ c. search needs)
+    (λ c. search needs)
+    (λ c. search needs)
     sub-all
-    span-of-requires
+    (λ c κs. search needs)
     sub-crossed
-    mul-result
-    shl-result
+    (λ c. search needs)
+    (λ c. search needs)
     join-requires
     returns)

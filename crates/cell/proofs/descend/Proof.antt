@@ -12,15 +12,6 @@ use Rattle.cell.proofs.TriangleBits.{kindAt, triangle-bits-16}
 use Rattle.cell.proofs.descend.Statement.{statement}
 use Rattle.cell.proofs.descend.Tie as tie
 
-mul-octant : tie.Need-mul-octant
-mul-octant c = search needs
-
-shr-octant : tie.Need-shr-octant
-shr-octant c = search needs
-
-shl-side : tie.Need-shl-side
-shl-side c = search needs
-
 -- N as the code shifts it
 side : (k : ℕ) → k ≤ maxLevel → 1 * 2 ^ k % 2 ^ 32 ≡ 2 ^ k
 side k h = shifted 32 k (omega arith)
@@ -31,23 +22,11 @@ side-pos k h = rw (side k h) (pow-pos k)
 sub-all : tie.Need-sub-all
 sub-all c = side-pos (c .args .level) (c .pre)
 
-split-requires : tie.Need-split-requires
-split-requires c κs = search needs
-
 rem-high : tie.Need-rem-high
 rem-high c = side-pos (c .before .before .args .level) (c .before .before .pre)
 
 rem-low : tie.Need-rem-low
 rem-low c = side-pos (c .before .before .before .args .level) (c .before .before .before .pre)
-
-odd-from-requires : tie.Need-odd-from-requires
-odd-from-requires c κs = search needs
-
-up-requires : tie.Need-up-requires
-up-requires c κs = search needs
-
-down-requires : tie.Need-down-requires
-down-requires c κs = search needs
 
 -- what the bits are made of fits the level's
 bounds : (h l k : ℕ) → k ≤ maxLevel →
@@ -87,15 +66,15 @@ pub descend-spec : {M : Type 1} → statement M
 descend-spec =
     tie.close
     (tie.spec
-    mul-octant
-    shr-octant
-    shl-side
+    (λ c. search needs)
+    (λ c. search needs)
+    (λ c. search needs)
     sub-all
-    split-requires
+    (λ c κs. search needs)
     rem-high
     rem-low
-    odd-from-requires
-    up-requires
-    down-requires
+    (λ c κs. search needs)
+    (λ c κs. search needs)
+    (λ c κs. search needs)
     returns
     returns-2)

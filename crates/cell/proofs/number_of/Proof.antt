@@ -13,12 +13,6 @@ returns c = simp (lt-ltb maxLevel (c .before .args .level) (omega arith))
 returns-2 : tie.Need-returns-2
 returns-2 c = simp (le-ltb _ _ (c .before .before .if1 .left), le-leb _ _ (c .if2 .taken))
 
-shl-if3 : tie.Need-shl-if3
-shl-if3 c = search needs
-
-span-of-requires : tie.Need-span-of-requires
-span-of-requires c κs = search needs
-
 returns-3 : tie.Need-returns-3
 returns-3 c =
     let k = c .before .before .before .before .before .args .level in
@@ -41,4 +35,4 @@ returns-4 c =
 pub number-of-spec : {M : Type 1} → statement M
 number-of-spec =
     tie.close
-    (tie.spec returns returns-2 shl-if3 span-of-requires returns-3 ascend-requires returns-4)
+    (tie.spec returns returns-2 (λ c. search needs) (λ c κs. search needs) returns-3 ascend-requires returns-4)

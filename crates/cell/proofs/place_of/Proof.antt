@@ -10,16 +10,10 @@ use Rattle.cell.proofs.place_of.Tie as tie
 returns : tie.Need-returns
 returns c = simp (lt-ltb maxLevel (c .before .args .level) (omega arith))
 
-is-cell-requires : tie.Need-is-cell-requires
-is-cell-requires c κs = search needs
-
 returns-2 : tie.Need-returns-2
 returns-2 c =
     let a = c .before .before .before .args in
     simp (le-ltb maxLevel (a .level) (omega arith), le-leb _ _ (no-cell _ (a .level) (a .cell) (c .before .is-cell .ensures) (c .if2 .taken)))
-
-descend-requires : tie.Need-descend-requires
-descend-requires c κs = search needs
 
 returns-3 : tie.Need-returns-3
 returns-3 c =
@@ -28,4 +22,4 @@ returns-3 c =
     simp (le-ltb maxLevel (a .level) (omega arith), lt-leb _ _ below, c .descend .ensures)
 
 pub place-of-spec : {M : Type 1} → statement M
-place-of-spec = tie.close (tie.spec returns is-cell-requires returns-2 descend-requires returns-3)
+place-of-spec = tie.close (tie.spec returns (λ c κs. search needs) returns-2 (λ c κs. search needs) returns-3)

@@ -15,21 +15,6 @@ use Rattle.cell_lister.proofs.Laws.{few-cells}
 use Rattle.cell_lister.proofs.output_of.Statement.{statement}
 use Rattle.cell_lister.proofs.output_of.Tie as tie
 
-slice-aggregate-read : tie.Need-slice-aggregate-read
-slice-aggregate-read c = search needs
-
-read-requires : tie.Need-read-requires
-read-requires c κs = search needs
-
-enum-known-level : tie.Need-enum-known-level
-enum-known-level c = search needs
-
-slice-aggregate-put-cells : tie.Need-slice-aggregate-put-cells
-slice-aggregate-put-cells c = search needs
-
-cast-put-cells : tie.Need-cast-put-cells
-cast-put-cells c = search needs
-
 -- what the reader said, of the answer that was matched
 told : {r s : BorderAnswer} {l : List ℕ} {v : Answer (ℕ × ℕ) × List ℕ} → r ≡ s → (saidBorder r, l) ≡ v → (saidBorder s, l) ≡ v
 told {r} {s} {l} {v} e h = subst (λ (t : BorderAnswer). (saidBorder t, l) ≡ v) e h
@@ -50,12 +35,6 @@ few l = few-cells _ (replicate 4097 0) _ _ _ (read-as l)
 put-cells-requires : tie.Need-put-cells-requires
 put-cells-requires c κs = let f = few (c .before .before .before) in (search needs, f, search needs)
 
-enum-known-n : tie.Need-enum-known-n
-enum-known-n c = search needs
-
-append-refusal-requires : tie.Need-append-refusal-requires
-append-refusal-requires c κs = search needs
-
 returns : tie.Need-returns
 returns c = (c .put-cells .ensures .0, c .put-cells .ensures .1 ∙ ap listed (read-as (c .before .before .before .before)))
 
@@ -74,13 +53,13 @@ pub output-of-spec : {M : Type 1} → statement M
 output-of-spec =
     tie.close
     (tie.spec
-    slice-aggregate-read
-    read-requires
-    enum-known-level
-    slice-aggregate-put-cells
-    cast-put-cells
+    (λ c. search needs)
+    (λ c κs. search needs)
+    (λ c. search needs)
+    (λ c. search needs)
+    (λ c. search needs)
     put-cells-requires
-    enum-known-n
-    append-refusal-requires
+    (λ c. search needs)
+    (λ c κs. search needs)
     returns
     returns-2)

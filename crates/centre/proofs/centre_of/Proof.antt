@@ -11,12 +11,6 @@ use Rattle.centre.specs.Centre.{centre}
 use Rattle.centre.proofs.centre_of.Statement.{statement}
 use Rattle.centre.proofs.centre_of.Tie as tie
 
-place-of-requires : tie.Need-place-of-requires
-place-of-requires c κs = search needs
-
-enum-known-answer : tie.Need-enum-known-answer
-enum-known-answer c = search needs
-
 -- the place that was found is the cell's
 known : (c : tie.After-known-told) →
     let a = c .before .before .before .before .args in
@@ -25,9 +19,6 @@ known c = given-place _ _ _ (rw (c .before .answer .given .1) at (c .before .bef
 
 centre-at-requires : tie.Need-centre-at-requires
 centre-at-requires c κs = let g = known c in (g .level, g .occurs)
-
-enum-known-answer-2 : tie.Need-enum-known-answer-2
-enum-known-answer-2 c = search needs
 
 returns : tie.Need-returns
 returns c =
@@ -47,9 +38,9 @@ pub centre-of-spec : {M : Type 1} → statement M
 centre-of-spec =
     tie.close
     (tie.spec
-    place-of-requires
-    enum-known-answer
+    (λ c κs. search needs)
+    (λ c. search needs)
     centre-at-requires
-    enum-known-answer-2
+    (λ c. search needs)
     returns
     returns-2)

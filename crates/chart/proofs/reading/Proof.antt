@@ -12,9 +12,6 @@ returns : tie.Need-returns
 unfolding readingOf
 returns c = simp (lt-ltb maxDays (c .before .args .age) (omega arith))
 
-in-range-requires : tie.Need-in-range-requires
-in-range-requires c κs = search needs
-
 returns-2 : tie.Need-returns-2
 unfolding readingOf
 returns-2 c =
@@ -39,4 +36,4 @@ returns-4 c =
     simp (le-ltb maxDays (a .age) (omega arith), inside (c .before), ne-eqb (a .age) 0 (λ e. omega arith))
 
 pub reading-spec : {M : Type 1} → statement M
-reading-spec = tie.close (tie.spec returns in-range-requires returns-2 returns-3 returns-4)
+reading-spec = tie.close (tie.spec returns (λ c κs. search needs) returns-2 returns-3 returns-4)

@@ -15,9 +15,6 @@ use Rattle.chart.proofs.reading_of.Tie as tie
 returns : tie.Need-returns
 returns c = simp (lt-ltb maxMaskLevel (c .before .before .before .args .level) (omega arith))
 
-is-cell-requires : tie.Need-is-cell-requires
-is-cell-requires c κs = search needs
-
 returns-2 : tie.Need-returns-2
 returns-2 c =
     let a = c .before .before .before .before .before .args in
@@ -32,23 +29,11 @@ low c = omega arith
 in-level : (c : tie.Else2) → entry c .args .cell < cells (entry c .args .level)
 in-level c = a-cell _ (entry c .args .level) (entry c .args .cell) (c .before .is-cell .ensures) (c .if2 .left)
 
-is-chart-requires : tie.Need-is-chart-requires
-is-chart-requires c κs = search needs
-
-enum-known-n : tie.Need-enum-known-n
-enum-known-n c = search needs
-
-enum-told : tie.Need-enum-told
-enum-told c = search needs
-
 -- the slices are a chart
 chart-at : (c : tie.After-enum-told) → let a = entry (c .before .before .before) .args in IsChart (a .level) (a .temperatures .now) (a .ages .now)
 chart-at c =
     let a = entry (c .before .before .before) .args in
     is-chart (a .level) (a .temperatures .now) (a .ages .now) (sym (ap saidOutcome (c .enum-told .given .1)) ∙ c .before .before .is-chart .ensures)
-
-mul-reading : tie.Need-mul-reading
-mul-reading c = search needs
 
 shared-slice-read-reading : tie.Need-shared-slice-read-reading
 shared-slice-read-reading c =
@@ -59,9 +44,6 @@ shared-slice-read-reading-2 : tie.Need-shared-slice-read-reading-2
 shared-slice-read-reading-2 c =
     let t = c .before .before in
     omega (arith, chart-at t .aged, in-level (t .before .before .before))
-
-reading-requires : tie.Need-reading-requires
-reading-requires c κs = search needs
 
 returns-3 : tie.Need-returns-3
 returns-3 c =
@@ -82,14 +64,14 @@ reading-of-spec =
     tie.close
     (tie.spec
     returns
-    is-cell-requires
+    (λ c κs. search needs)
     returns-2
-    is-chart-requires
-    enum-known-n
-    enum-told
-    mul-reading
+    (λ c κs. search needs)
+    (λ c. search needs)
+    (λ c. search needs)
+    (λ c. search needs)
     shared-slice-read-reading
     shared-slice-read-reading-2
-    reading-requires
+    (λ c κs. search needs)
     returns-3
     returns-4)

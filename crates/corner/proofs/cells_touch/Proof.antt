@@ -41,24 +41,6 @@ module _ (k a b : ℕ) (p : Place) (A : Given k a p) where
 
 -- ---- the needs
 
-place-of-requires : tie.Need-place-of-requires
-place-of-requires c κs = search needs
-
-enum-known-n : tie.Need-enum-known-n
-enum-known-n c = search needs
-
-enum-known-p : tie.Need-enum-known-p
-enum-known-p c = search needs
-
-place-of-requires-2 : tie.Need-place-of-requires-2
-place-of-requires-2 c κs = search needs
-
-enum-known-n-2 : tie.Need-enum-known-n-2
-enum-known-n-2 c = search needs
-
-enum-known-q : tie.Need-enum-known-q
-enum-known-q c = search needs
-
 -- the state at the entry
 abbrev entry : (c : tie.After-p) → tie.Start
 entry c = c .before .before .before
@@ -85,9 +67,6 @@ corners-of-requires c κs = let A = first (one-given (c .before)) in (A .level, 
 
 corners-of-requires-2 : tie.Need-corners-of-requires-2
 corners-of-requires-2 c κs = let B = second (c .before .before) in (B .level, B .occurs)
-
-have-common-requires : tie.Need-have-common-requires
-have-common-requires c κs = search needs
 
 returns-2 : tie.Need-returns-2
 returns-2 c =
@@ -122,16 +101,16 @@ pub cells-touch-spec : {M : Type 1} → statement M
 cells-touch-spec =
     tie.close
     (tie.spec
-    place-of-requires
-    enum-known-n
-    enum-known-p
-    place-of-requires-2
-    enum-known-n-2
-    enum-known-q
+    (λ c κs. search needs)
+    (λ c. search needs)
+    (λ c. search needs)
+    (λ c κs. search needs)
+    (λ c. search needs)
+    (λ c. search needs)
     returns
     corners-of-requires
     corners-of-requires-2
-    have-common-requires
+    (λ c κs. search needs)
     returns-2
     returns-3
     returns-4

@@ -9,24 +9,6 @@ use Rattle.corner.specs.Corner.{among, common}
 use Rattle.corner.proofs.have_common.Statement.{statement}
 use Rattle.corner.proofs.have_common.Tie as tie
 
-array-copy-out-is-among : tie.Need-array-copy-out-is-among
-array-copy-out-is-among c = search needs
-
-is-among-requires : tie.Need-is-among-requires
-is-among-requires c κs = search needs
-
-array-copy-out-is-among-2 : tie.Need-array-copy-out-is-among-2
-array-copy-out-is-among-2 c = search needs
-
-is-among-requires-2 : tie.Need-is-among-requires-2
-is-among-requires-2 c κs = search needs
-
-array-copy-out-is-among-3 : tie.Need-array-copy-out-is-among-3
-array-copy-out-is-among-3 c = search needs
-
-is-among-requires-3 : tie.Need-is-among-requires-3
-is-among-requires-3 c κs = search needs
-
 -- the first two of the three
 first-two :
     (c : tie.Joined1)
@@ -47,11 +29,11 @@ pub have-common-spec : {M : Type 1} → statement M
 have-common-spec =
     tie.close
     (tie.spec
-    array-copy-out-is-among
-    is-among-requires
-    array-copy-out-is-among-2
-    is-among-requires-2
-    array-copy-out-is-among-3
-    is-among-requires-3
+    (λ c. search needs)
+    (λ c κs. search needs)
+    (λ c. search needs)
+    (λ c κs. search needs)
+    (λ c. search needs)
+    (λ c κs. search needs)
     returns
     returns-2)

@@ -9,24 +9,6 @@ use Rattle.corner.specs.Corner.{samePoint, among}
 use Rattle.corner.proofs.is_among.Statement.{statement}
 use Rattle.corner.proofs.is_among.Tie as tie
 
-array-copy-out-same-point : tie.Need-array-copy-out-same-point
-array-copy-out-same-point c = search needs
-
-same-point-requires : tie.Need-same-point-requires
-same-point-requires c κs = search needs
-
-array-copy-out-same-point-2 : tie.Need-array-copy-out-same-point-2
-array-copy-out-same-point-2 c = search needs
-
-same-point-requires-2 : tie.Need-same-point-requires-2
-same-point-requires-2 c κs = search needs
-
-array-copy-out-same-point-3 : tie.Need-array-copy-out-same-point-3
-array-copy-out-same-point-3 c = search needs
-
-same-point-requires-3 : tie.Need-same-point-requires-3
-same-point-requires-3 c κs = search needs
-
 -- the first two of the three
 first-two :
     (c : tie.Joined1)
@@ -47,11 +29,11 @@ pub is-among-spec : {M : Type 1} → statement M
 is-among-spec =
     tie.close
     (tie.spec
-    array-copy-out-same-point
-    same-point-requires
-    array-copy-out-same-point-2
-    same-point-requires-2
-    array-copy-out-same-point-3
-    same-point-requires-3
+    (λ c. search needs)
+    (λ c κs. search needs)
+    (λ c. search needs)
+    (λ c κs. search needs)
+    (λ c. search needs)
+    (λ c κs. search needs)
     returns
     returns-2)

@@ -7,15 +7,6 @@ use Rattle.corner.specs.Corner.{coordinate, sameNumber, samePoint}
 use Rattle.corner.proofs.same_point.Statement.{statement}
 use Rattle.corner.proofs.same_point.Tie as tie
 
-same-at-requires : tie.Need-same-at-requires
-same-at-requires c κs = search needs
-
-same-at-requires-2 : tie.Need-same-at-requires-2
-same-at-requires-2 c κs = search needs
-
-same-at-requires-3 : tie.Need-same-at-requires-3
-same-at-requires-3 c κs = search needs
-
 -- the first two comparisons
 first-two :
     (c : tie.Joined1)
@@ -35,4 +26,4 @@ returns-2 c = rw (sym (first-two (c .before)) ∙ c .if2 .left) (c .if2 .left)
 
 pub same-point-spec : {M : Type 1} → statement M
 same-point-spec =
-    tie.close (tie.spec same-at-requires same-at-requires-2 same-at-requires-3 returns returns-2)
+    tie.close (tie.spec (λ c κs. search needs) (λ c κs. search needs) (λ c κs. search needs) returns returns-2)

@@ -15,9 +15,6 @@ use Rattle.day.proofs.Days.{not-first, not-second}
 use Rattle.day.proofs.cell_after.Statement.{statement}
 use Rattle.day.proofs.cell_after.Tie as tie
 
-in-range-requires : tie.Need-in-range-requires
-in-range-requires c κs = search needs
-
 returns : tie.Need-returns
 unfolding dayOf
 returns c =
@@ -30,12 +27,6 @@ not-new c = ⊎-elim
     (λ p. not-second (not (c .before .args .covered)) (inRange (c .before .args .new)) (sym (p .1 .ensures) ∙ p .2 .left))
     (λ p. not-first (not (c .before .args .covered)) (inRange (c .before .args .new)) (p .left))
     (c .if1 .came)
-
-in-range-requires-2 : tie.Need-in-range-requires-2
-in-range-requires-2 c κs = search needs
-
-add-t11 : tie.Need-add-t11
-add-t11 c = search needs
 
 returns-2 : tie.Need-returns-2
 unfolding dayOf
@@ -61,4 +52,4 @@ returns-3 c = rw (not-new (c .before), not-old c)
 
 pub cell-after-spec : {M : Type 1} → statement M
 cell-after-spec =
-    tie.close (tie.spec in-range-requires returns in-range-requires-2 add-t11 returns-2 returns-3)
+    tie.close (tie.spec (λ c κs. search needs) returns (λ c κs. search needs) (λ c. search needs) returns-2 returns-3)

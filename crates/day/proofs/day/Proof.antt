@@ -11,15 +11,6 @@ use Rattle.day.proofs.Answers.{Ready, ready, slices, day-refused, day-g
 use Rattle.day.proofs.day.Statement.{statement}
 use Rattle.day.proofs.day.Tie as tie
 
-day-tests-requires : tie.Need-day-tests-requires
-day-tests-requires c κs = search needs
-
-enum-known-n : tie.Need-enum-known-n
-enum-known-n c = search needs
-
-enum-told : tie.Need-enum-told
-enum-told c = search needs
-
 abbrev entry : tie.After-enum-told → tie.Start
 entry c = c .before .before .before .before .before .before .before .before .before
 
@@ -40,12 +31,6 @@ rewrite-requires c κs =
     let r = ready-at e in
     omega (arith, r .days, r .read, r .warmth, r .aged, mask-small (entry e .args .level) (r .level))
 
-same-length : tie.Need-same-length
-same-length c = search needs
-
-same-length-2 : tie.Need-same-length-2
-same-length-2 c = search needs
-
 -- a test refused, and the slices are as they were
 refused-told : (c : tie.After-known-told) → let a = c .before .before .before .before .before .before .before .before .before .before .args in
     (refused (c .before .n .given .0 .0), slices (a .temperatures .now) (a .ages .now))
@@ -57,12 +42,6 @@ refused-told c =
 
 returns : tie.Need-returns
 returns c = search refused-told
-
-same-length-3 : tie.Need-same-length-3
-same-length-3 c = search needs
-
-same-length-4 : tie.Need-same-length-4
-same-length-4 c = search needs
 
 returns-2 : tie.Need-returns-2
 returns-2 c =
@@ -79,13 +58,13 @@ pub day-spec : {M : Type 1} → statement M
 day-spec =
     tie.close
     (tie.spec
-    day-tests-requires
-    enum-known-n
-    enum-told
+    (λ c κs. search needs)
+    (λ c. search needs)
+    (λ c. search needs)
     rewrite-requires
-    same-length
-    same-length-2
+    (λ c. search needs)
+    (λ c. search needs)
     returns
-    same-length-3
-    same-length-4
+    (λ c. search needs)
+    (λ c. search needs)
     returns-2)

@@ -26,15 +26,6 @@ returns-2 c =
     let s = a .summary in
     first-fresh (summaryIs s) (a .temperature) (omega arith) ∙ fresh-cell (c .before .before)
 
-add-t5 : tie.Need-add-t5
-add-t5 c = omega arith
-
-colder-requires : tie.Need-colder-requires
-colder-requires c κs = search needs
-
-warmer-requires : tie.Need-warmer-requires
-warmer-requires c κs = search needs
-
 returns-3 : tie.Need-returns-3
 returns-3 c =
     let e = c .before .before .before .before .before in
@@ -44,4 +35,4 @@ returns-3 c =
 
 pub with-cell-spec : {M : Type 1} → statement M
 with-cell-spec =
-    tie.close (tie.spec returns returns-2 add-t5 colder-requires warmer-requires returns-3)
+    tie.close (tie.spec returns returns-2 (λ c. omega arith) (λ c κs. search needs) (λ c κs. search needs) returns-3)

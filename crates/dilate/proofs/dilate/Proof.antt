@@ -10,12 +10,6 @@ use Rattle.dilate.proofs.Laws.{dilated-mask, dilated-other}
 use Rattle.dilate.proofs.dilate.Statement.{statement}
 use Rattle.dilate.proofs.dilate.Tie as tie
 
-is-mask-requires : tie.Need-is-mask-requires
-is-mask-requires c κs = search needs
-
-enum-told : tie.Need-enum-told
-enum-told c = search needs
-
 -- the slice is a mask of the level
 fits : (c : tie.After-enum-told) → let a = c .before .before .before .before .before .args in given done ≡ maskCall (a .level) (a .mask .now)
 fits c = sym (ap saidOutcome (c .enum-told .given .1)) ∙ c .before .before .is-mask .ensures
@@ -25,21 +19,12 @@ dilate-mask-requires c κs =
     let a = c .before .before .before .before .before .before .args in
     let m = is-mask (a .level) (a .mask .now) (fits (c .before)) in (m .level, m .long)
 
-enum-told-2 : tie.Need-enum-told-2
-enum-told-2 c = search needs
-
-same-length : tie.Need-same-length
-same-length c = search needs
-
 returns : tie.Need-returns
 returns c =
     let t = c .before .before .before .before in
     let a = t .before .before .before .before .before .args in
     let m = is-mask (a .level) (a .mask .now) (fits t) in
     c .before .before .dilate-mask .ensures ∙ sym (dilated-mask (a .level) (a .rings) (a .mask .now) (m .level) (m .long))
-
-same-length-2 : tie.Need-same-length-2
-same-length-2 c = search needs
 
 returns-2 : tie.Need-returns-2
 returns-2 c =
@@ -51,11 +36,11 @@ pub dilate-spec : {M : Type 1} → statement M
 dilate-spec =
     tie.close
     (tie.spec
-    is-mask-requires
-    enum-told
+    (λ c κs. search needs)
+    (λ c. search needs)
     dilate-mask-requires
-    enum-told-2
-    same-length
+    (λ c. search needs)
+    (λ c. search needs)
     returns
-    same-length-2
+    (λ c. search needs)
     returns-2)

@@ -19,18 +19,6 @@ returns c =
     let s = c .before .before in
     rw (c .if1 .taken) (none (s .args .level) (s .pre .0) (s .args .mask .now) (s .pre .1) (λ i. c .before .slice-known .given i .fits))
 
-to-rows-requires : tie.Need-to-rows-requires
-to-rows-requires c κs = search needs
-
-points-of-requires : tie.Need-points-of-requires
-points-of-requires c κs = search needs
-
-join-seams-requires : tie.Need-join-seams-requires
-join-seams-requires c κs = search needs
-
-sub-more-rings : tie.Need-sub-more-rings
-sub-more-rings c = search needs
-
 abbrev entry : tie.After-to-rows → tie.Start
 entry c = c .before .before .before .before .before .before
 
@@ -55,15 +43,6 @@ more-rings-requires c κs =
     let k = s .args .level in
     (s .pre .0, past-rows k _ (s .pre .0) (first j .only), cells-clear k (s .pre .0) (s .args .mask .now) (s .pre .1) _ _ (r .to-rows .ensures .1))
 
-cells-of-requires : tie.Need-cells-of-requires
-cells-of-requires c κs = search needs
-
-from-rows-requires : tie.Need-from-rows-requires
-from-rows-requires c κs = search needs
-
-same-length : tie.Need-same-length
-same-length c = search needs
-
 returns-2 : tie.Need-returns-2
 returns-2 c =
     let f = c .before .before in
@@ -83,12 +62,12 @@ dilate-mask-spec =
     tie.close
     (tie.spec
     returns
-    to-rows-requires
-    points-of-requires
-    join-seams-requires
-    sub-more-rings
+    (λ c κs. search needs)
+    (λ c κs. search needs)
+    (λ c κs. search needs)
+    (λ c. search needs)
     more-rings-requires
-    cells-of-requires
-    from-rows-requires
-    same-length
+    (λ c κs. search needs)
+    (λ c κs. search needs)
+    (λ c. search needs)
     returns-2)

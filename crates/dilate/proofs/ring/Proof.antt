@@ -5,12 +5,6 @@ use Rattle.dilate.proofs.Rings.{ring-clear, ring-spreads}
 use Rattle.dilate.proofs.ring.Statement.{statement}
 use Rattle.dilate.proofs.ring.Tie as tie
 
-near-requires : tie.Need-near-requires
-near-requires c κs = search needs
-
-join-seams-requires : tie.Need-join-seams-requires
-join-seams-requires c κs = search needs
-
 returns : tie.Need-returns
 returns c =
     let e = c .before .before .before .before in
@@ -24,4 +18,4 @@ returns c =
     (ring-spreads (a .level) (h .0) P N W _ _ near join (h .2) (h .1), ring-clear (a .level) (h .0) P N W _ _ near join (h .2))
 
 pub ring-spec : {M : Type 1} → statement M
-ring-spec = tie.close (tie.spec near-requires join-seams-requires returns)
+ring-spec = tie.close (tie.spec (λ c κs. search needs) (λ c κs. search needs) returns)

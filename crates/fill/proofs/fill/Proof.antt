@@ -12,15 +12,6 @@ use Rattle.fill.proofs.fill.Tie as tie
 returns : tie.Need-returns
 returns c = search fill-refused
 
-fill-tests-requires : tie.Need-fill-tests-requires
-fill-tests-requires c κs = search needs
-
-enum-known-n : tie.Need-enum-known-n
-enum-known-n c = search needs
-
-enum-told : tie.Need-enum-told
-enum-told c = search needs
-
 abbrev entry : tie.After-enum-told → tie.Start
 entry c = c .before .before .before .before .before .before
 
@@ -34,15 +25,6 @@ reach-all-requires c κs =
     let r = ready (a .level) (a .border .now) (a .outside) (a .out .now) (told (c .before)) in
     omega (arith, r .level, r .written, r .cell)
 
-complement-requires : tie.Need-complement-requires
-complement-requires c κs = search needs
-
-same-length : tie.Need-same-length
-same-length c = search needs
-
-same-length-2 : tie.Need-same-length-2
-same-length-2 c = search needs
-
 returns-2 : tie.Need-returns-2
 returns-2 c =
     let n = c .before .before in
@@ -55,12 +37,12 @@ pub fill-spec : {M : Type 1} → statement M
 fill-spec =
     tie.close
     (tie.spec
-    fill-tests-requires
-    enum-known-n
-    enum-told
+    (λ c κs. search needs)
+    (λ c. search needs)
+    (λ c. search needs)
     reach-all-requires
-    complement-requires
-    same-length
+    (λ c κs. search needs)
+    (λ c. search needs)
     returns
-    same-length-2
+    (λ c. search needs)
     returns-2)

@@ -15,9 +15,6 @@ use Rattle.fill.proofs.fill_tests.Tie as tie
 returns : tie.Need-returns
 returns c = simp (lt-ltb maxMaskLevel (c .before .before .before .args .level) (omega arith))
 
-is-cell-requires : tie.Need-is-cell-requires
-is-cell-requires c κs = search needs
-
 returns-2 : tie.Need-returns-2
 returns-2 c =
     let a = c .before .before .before .before .before .args in
@@ -31,15 +28,6 @@ low c = omega arith
 
 in-range : (c : tie.Else2) → entry c .args .outside < cells (entry c .args .level)
 in-range c = a-cell _ (entry c .args .level) (entry c .args .outside) (c .before .is-cell .ensures) (c .if2 .left)
-
-mul-bytes : tie.Need-mul-bytes
-mul-bytes c = search needs
-
-cast-bytes : tie.Need-cast-bytes
-cast-bytes c = search needs
-
-shl-bytes : tie.Need-shl-bytes
-shl-bytes c = search needs
 
 returns-3 : tie.Need-returns-3
 returns-3 c =
@@ -61,9 +49,6 @@ returns-4 c =
 second : (c : tie.Else4) → length (entry (c .before .before) .args .out .now) ≡ 4 ^ entry (c .before .before) .args .level
 second c = omega (arith, level-shifted 64 1 (entry (c .before .before) .args .level) (low (c .before .before)) (omega arith))
 
-is-marked-requires : tie.Need-is-marked-requires
-is-marked-requires c κs = search needs
-
 returns-5 : tie.Need-returns-5
 returns-5 c =
     let f = c .before .before in
@@ -83,13 +68,13 @@ fill-tests-spec =
     tie.close
     (tie.spec
     returns
-    is-cell-requires
+    (λ c κs. search needs)
     returns-2
-    mul-bytes
-    cast-bytes
-    shl-bytes
+    (λ c. search needs)
+    (λ c. search needs)
+    (λ c. search needs)
     returns-3
     returns-4
-    is-marked-requires
+    (λ c κs. search needs)
     returns-5
     returns-6)

@@ -5,12 +5,6 @@ use Rattle.flood.proofs.Turns.{turn-join}
 use Rattle.flood.proofs.go_round.Statement.{statement}
 use Rattle.flood.proofs.go_round.Tie as tie
 
-sweep-requires : tie.Need-sweep-requires
-sweep-requires c κs = search needs
-
-reach-over-requires : tie.Need-reach-over-requires
-reach-over-requires c κs = search needs
-
 returns : tie.Need-returns
 returns c =
     let w = c .before .before in
@@ -18,4 +12,4 @@ returns c =
     turn-join (λ s t i j m. inl m) (λ s t i j m. inr m) (λ s t i j m. m) (w .sweep .ensures) (c .reach-over .ensures (a .open-down .now) _)
 
 pub go-round-spec : {M : Type 1} → statement M
-go-round-spec = tie.close (tie.spec sweep-requires reach-over-requires returns)
+go-round-spec = tie.close (tie.spec (λ c κs. search needs) (λ c κs. search needs) returns)

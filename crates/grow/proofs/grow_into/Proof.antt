@@ -9,27 +9,12 @@ use Rattle.grow.proofs.Bytes.{copied}
 use Rattle.grow.proofs.grow_into.Statement.{statement}
 use Rattle.grow.proofs.grow_into.Tie as tie
 
-copy-requires : tie.Need-copy-requires
-copy-requires c κs = search needs
-
 abbrev entry : tie.After-copy → tie.Start
 entry c = c .before .before .before .before .before
 
 -- what is copied is the mask
 written : (c : tie.After-copy) → c .copy .last .1 .0 ≡ entry c .args .mask .now
 written c = let h = entry c .pre in copied _ (entry c .args .out .now) _ (h .1 ∙ sym (h .2)) (c .copy .ensures .1)
-
-dilate-requires : tie.Need-dilate-requires
-dilate-requires c κs = search needs
-
-clear-requires : tie.Need-clear-requires
-clear-requires c κs = search needs
-
-same-length : tie.Need-same-length
-same-length c = search needs
-
-same-length-2 : tie.Need-same-length-2
-same-length-2 c = search needs
 
 returns : tie.Need-returns
 returns c =
@@ -44,4 +29,4 @@ returns c =
 pub grow-into-spec : {M : Type 1} → statement M
 grow-into-spec =
     tie.close
-    (tie.spec copy-requires dilate-requires clear-requires same-length same-length-2 returns)
+    (tie.spec (λ c κs. search needs) (λ c κs. search needs) (λ c κs. search needs) (λ c. search needs) (λ c. search needs) returns)

@@ -13,12 +13,6 @@ use Rattle.grow.proofs.Shrinking.{shrunk-bytes}
 use Rattle.grow.proofs.shrink_into.Statement.{statement}
 use Rattle.grow.proofs.shrink_into.Tie as tie
 
-copy-requires : tie.Need-copy-requires
-copy-requires c κs = search needs
-
-complement-requires : tie.Need-complement-requires
-complement-requires c κs = search needs
-
 abbrev entry : tie.After-copy → tie.Start
 entry c = c .before .before .before .before .before
 
@@ -47,21 +41,6 @@ outside c = subst
 long : (c : tie.After-complement) → length (c .complement .last .0) ≡ 4 ^ entry (first c) .args .level
 long c = c .complement .kept .0 ∙ ap length (written (first c)) ∙ entry (first c) .pre .1
 
-dilate-requires : tie.Need-dilate-requires
-dilate-requires c κs = search needs
-
-complement-requires-2 : tie.Need-complement-requires-2
-complement-requires-2 c κs = search needs
-
-clear-requires : tie.Need-clear-requires
-clear-requires c κs = search needs
-
-same-length : tie.Need-same-length
-same-length c = search needs
-
-same-length-2 : tie.Need-same-length-2
-same-length-2 c = search needs
-
 returns : tie.Need-returns
 returns c =
     let w = c .before .before in
@@ -81,11 +60,11 @@ pub shrink-into-spec : {M : Type 1} → statement M
 shrink-into-spec =
     tie.close
     (tie.spec
-    copy-requires
-    complement-requires
-    dilate-requires
-    complement-requires-2
-    clear-requires
-    same-length
-    same-length-2
+    (λ c κs. search needs)
+    (λ c κs. search needs)
+    (λ c κs. search needs)
+    (λ c κs. search needs)
+    (λ c κs. search needs)
+    (λ c. search needs)
+    (λ c. search needs)
     returns)

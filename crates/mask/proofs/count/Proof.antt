@@ -10,15 +10,6 @@ use Rattle.mask.proofs.Answers.{IsMask, is-mask}
 use Rattle.mask.proofs.count.Statement.{statement}
 use Rattle.mask.proofs.count.Tie as tie
 
-is-mask-requires : tie.Need-is-mask-requires
-is-mask-requires c κs = search needs
-
-enum-known-n : tie.Need-enum-known-n
-enum-known-n c = search needs
-
-enum-told : tie.Need-enum-told
-enum-told c = search needs
-
 abbrev entry : tie.After-enum-told → tie.Start
 entry c = c .before .before .before .before
 
@@ -45,4 +36,4 @@ returns-2 c =
 pub count-spec : {M : Type 1} → statement M
 count-spec =
     tie.close
-    (tie.spec is-mask-requires enum-known-n enum-told sum-ones-requires returns returns-2)
+    (tie.spec (λ c κs. search needs) (λ c. search needs) (λ c. search needs) sum-ones-requires returns returns-2)

@@ -13,15 +13,6 @@ use Rattle.mask.proofs.is_mask.Tie as tie
 returns : tie.Need-returns
 returns c = simp (lt-ltb maxMaskLevel (c .before .args .level) (omega arith))
 
-mul-if2 : tie.Need-mul-if2
-mul-if2 c = search needs
-
-cast-if2 : tie.Need-cast-if2
-cast-if2 c = search needs
-
-shl-if2 : tie.Need-shl-if2
-shl-if2 c = search needs
-
 returns-2 : tie.Need-returns-2
 returns-2 c =
     let k = c .before .before .args .level in
@@ -37,4 +28,4 @@ returns-3 c =
     simp (le-ltb maxMaskLevel k h, eq-eqb _ _ e)
 
 pub is-mask-spec : {M : Type 1} → statement M
-is-mask-spec = tie.close (tie.spec returns mul-if2 cast-if2 shl-if2 returns-2 returns-3)
+is-mask-spec = tie.close (tie.spec returns (λ c. search needs) (λ c. search needs) (λ c. search needs) returns-2 returns-3)

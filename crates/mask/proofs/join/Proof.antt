@@ -11,15 +11,6 @@ use Rattle.mask.proofs.join.Tie as tie
 returns : tie.Need-returns
 returns c = search join-refused
 
-join-tests-requires : tie.Need-join-tests-requires
-join-tests-requires c κs = search needs
-
-enum-known-n : tie.Need-enum-known-n
-enum-known-n c = search needs
-
-enum-told : tie.Need-enum-told
-enum-told c = search needs
-
 abbrev entry : tie.After-enum-told → tie.Start
 entry c = c .before .before .before .before .before .before .before
 
@@ -33,12 +24,6 @@ join-bytes-requires c κs =
     let j = joinable (a .level) (a .a .now) (a .b .now) (a .out .now) (told (c .before)) in
     (j .first ∙ sym (j .written), j .second ∙ sym (j .written))
 
-same-length : tie.Need-same-length
-same-length c = search needs
-
-same-length-2 : tie.Need-same-length-2
-same-length-2 c = search needs
-
 returns-2 : tie.Need-returns-2
 returns-2 c =
     let e = c .before .before .before .before in
@@ -49,11 +34,11 @@ pub join-spec : {M : Type 1} → statement M
 join-spec =
     tie.close
     (tie.spec
-    join-tests-requires
-    enum-known-n
-    enum-told
+    (λ c κs. search needs)
+    (λ c. search needs)
+    (λ c. search needs)
     join-bytes-requires
-    same-length
+    (λ c. search needs)
     returns
-    same-length-2
+    (λ c. search needs)
     returns-2)

@@ -15,15 +15,6 @@ use Rattle.mask.proofs.Answers.{IsMask, is-mask}
 use Rattle.mask.proofs.join_tests.Statement.{statement}
 use Rattle.mask.proofs.join_tests.Tie as tie
 
-is-mask-requires : tie.Need-is-mask-requires
-is-mask-requires c κs = search needs
-
-enum-known-n : tie.Need-enum-known-n
-enum-known-n c = search needs
-
-enum-told : tie.Need-enum-told
-enum-told c = search needs
-
 abbrev entry : tie.After-enum-told → tie.Start
 entry c = c .before .before .before .before .before .before
 
@@ -65,4 +56,4 @@ returns-4 c =
 pub join-tests-spec : {M : Type 1} → statement M
 join-tests-spec =
     tie.close
-    (tie.spec is-mask-requires enum-known-n enum-told returns returns-2 returns-3 returns-4)
+    (tie.spec (λ c κs. search needs) (λ c. search needs) (λ c. search needs) returns returns-2 returns-3 returns-4)

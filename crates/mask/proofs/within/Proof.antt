@@ -18,15 +18,6 @@ use Rattle.mask.proofs.Answers.{IsMask, is-mask}
 use Rattle.mask.proofs.within.Statement.{statement}
 use Rattle.mask.proofs.within.Tie as tie
 
-is-mask-requires : tie.Need-is-mask-requires
-is-mask-requires c κs = search needs
-
-enum-known-n : tie.Need-enum-known-n
-enum-known-n c = search needs
-
-enum-told : tie.Need-enum-told
-enum-told c = search needs
-
 abbrev entry : tie.After-enum-told → tie.Start
 entry c = c .before .before .before .before .before
 
@@ -47,9 +38,6 @@ second c = omega (arith, first (c .before) .long)
 
 first-lacking-requires : tie.Need-first-lacking-requires
 first-lacking-requires c κs = omega (arith, first (c .before) .long, first (c .before) .short, second c)
-
-cast-if2 : tie.Need-cast-if2
-cast-if2 c = search needs
 
 mul-if2 : tie.Need-mul-if2
 mul-if2 c = omega (arith, first (c .before .before) .short)
@@ -83,12 +71,12 @@ pub within-spec : {M : Type 1} → statement M
 within-spec =
     tie.close
     (tie.spec
-    is-mask-requires
-    enum-known-n
-    enum-told
+    (λ c κs. search needs)
+    (λ c. search needs)
+    (λ c. search needs)
     returns
     first-lacking-requires
-    cast-if2
+    (λ c. search needs)
     mul-if2
     returns-2
     returns-3

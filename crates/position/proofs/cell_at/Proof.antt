@@ -20,12 +20,6 @@ use Rattle.position.proofs.cell_at.Tie as tie
 returns : tie.Need-returns
 returns c = simp (lt-ltb maxLevel (c .before .args .level) (omega arith))
 
-from-equator-requires : tie.Need-from-equator-requires
-from-equator-requires c κs = search needs
-
-longitude-out-requires : tie.Need-longitude-out-requires
-longitude-out-requires c κs = search needs
-
 returns-2 : tie.Need-returns-2
 returns-2 c =
     let s = c .before .before in
@@ -60,18 +54,6 @@ octant-of-requires c κs = past c .1 .1 .0
 from-west-requires : tie.Need-from-west-requires
 from-west-requires c κs = past (c .before) .1 .1 .0
 
-place-at-requires : tie.Need-place-at-requires
-place-at-requires c κs = omega arith
-
-number-of-requires : tie.Need-number-of-requires
-number-of-requires c κs = search needs
-
-enum-known-answer : tie.Need-enum-known-answer
-enum-known-answer c = search needs
-
-enum-known-answer-2 : tie.Need-enum-known-answer-2
-enum-known-answer-2 c = search needs
-
 -- the place of a position, by its octant, its distance from the equator and its longitude counted from the west
 position : (k : ℕ) (y x : ℤ) (o p w : ℕ) → o ≡ octant y x → p ≡ natAbs y → w ≡ fromWest x → (o, triangleAt k p (w % q)) ≡ placeAt k y x
 unfolding placeAt offset
@@ -105,15 +87,15 @@ cell-at-spec =
     tie.close
     (tie.spec
     returns
-    from-equator-requires
-    longitude-out-requires
+    (λ c κs. search needs)
+    (λ c κs. search needs)
     returns-2
     returns-3
     octant-of-requires
     from-west-requires
-    place-at-requires
-    number-of-requires
-    enum-known-answer
-    enum-known-answer-2
+    (λ c κs. omega arith)
+    (λ c κs. search needs)
+    (λ c. search needs)
+    (λ c. search needs)
     returns-4
     returns-5)

@@ -9,12 +9,6 @@ use Rattle.raster.proofs.Answers.{passed-is, refused-is}
 use Rattle.raster.proofs.from_rows.Statement.{statement}
 use Rattle.raster.proofs.from_rows.Tie as tie
 
-is-mask-requires : tie.Need-is-mask-requires
-is-mask-requires c κs = search needs
-
-enum-told : tie.Need-enum-told
-enum-told c = search needs
-
 -- the slice is a mask of the level
 fits : (c : tie.After-enum-told) → let a = c .before .before .before .before .before .args in given done ≡ maskCall (a .level) (a .mask .now)
 fits c = sym (ap saidOutcome (c .enum-told .given .1)) ∙ c .before .before .is-mask .ensures
@@ -24,20 +18,11 @@ take-pieces-requires c κs =
     let a = c .before .before .before .before .before .before .args in
     let m = is-mask (a .level) (a .mask .now) (fits (c .before)) in (m .level, m .long)
 
-enum-told-2 : tie.Need-enum-told-2
-enum-told-2 c = search needs
-
-same-length : tie.Need-same-length
-same-length c = search needs
-
 returns : tie.Need-returns
 returns c =
     let t = c .before .before .before .before in
     let a = t .before .before .before .before .before .args in
     rw (passed-is (a .level) (a .mask .now) (fits t)) (c .before .before .take-pieces .ensures)
-
-same-length-2 : tie.Need-same-length-2
-same-length-2 c = search needs
 
 returns-2 : tie.Need-returns-2
 returns-2 c =
@@ -48,11 +33,11 @@ pub from-rows-spec : {M : Type 1} → statement M
 from-rows-spec =
     tie.close
     (tie.spec
-    is-mask-requires
-    enum-told
+    (λ c κs. search needs)
+    (λ c. search needs)
     take-pieces-requires
-    enum-told-2
-    same-length
+    (λ c. search needs)
+    (λ c. search needs)
     returns
-    same-length-2
+    (λ c. search needs)
     returns-2)

@@ -8,18 +8,6 @@ use Rattle.raster.proofs.Pieces.{small-size, block-size}
 use Rattle.raster.proofs.piece_count.Statement.{statement}
 use Rattle.raster.proofs.piece_count.Tie as tie
 
-mul-result : tie.Need-mul-result
-mul-result c = search needs
-
-shl-result : tie.Need-shl-result
-shl-result c = search needs
-
-mul-result-2 : tie.Need-mul-result-2
-mul-result-2 c = search needs
-
-shl-result-2 : tie.Need-shl-result-2
-shl-result-2 c = search needs
-
 returns : tie.Need-returns
 returns c =
     let k = c .before .args .level in
@@ -32,4 +20,4 @@ returns-2 c =
 
 pub piece-count-spec : {M : Type 1} → statement M
 piece-count-spec =
-    tie.close (tie.spec mul-result shl-result mul-result-2 shl-result-2 returns returns-2)
+    tie.close (tie.spec (λ c. search needs) (λ c. search needs) (λ c. search needs) (λ c. search needs) returns returns-2)

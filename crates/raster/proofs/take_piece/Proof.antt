@@ -29,9 +29,6 @@ block-at-requires c κs =
 store-word-requires : tie.Need-store-word-requires
 store-word-requires c κs = a-block (c .before .before) .1
 
-same-length : tie.Need-same-length
-same-length c = search needs
-
 returns : tie.Need-returns
 returns c x =
     let k = c .before .before in
@@ -39,9 +36,6 @@ returns c x =
     let a = t .before .before .args in
     let A = cellLit (a .level) (a .up .now) (a .down .now) in
     k .take-cell .ensures x ∙ ap (λ (b : Bool). marked (a .mask .now) x || b) (of-cells (a .level) (a .n) A x (t .if1 .taken))
-
-same-length-2 : tie.Need-same-length-2
-same-length-2 c = search needs
 
 returns-2 : tie.Need-returns-2
 returns-2 c x =
@@ -62,7 +56,7 @@ take-piece-spec =
     take-cell-requires
     block-at-requires
     store-word-requires
-    same-length
+    (λ c. search needs)
     returns
-    same-length-2
+    (λ c. search needs)
     returns-2)

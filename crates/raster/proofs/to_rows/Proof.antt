@@ -12,12 +12,6 @@ use Rattle.raster.proofs.Answers.{passed-is, refused-is, all-added}
 use Rattle.raster.proofs.to_rows.Statement.{statement}
 use Rattle.raster.proofs.to_rows.Tie as tie
 
-is-mask-requires : tie.Need-is-mask-requires
-is-mask-requires c κs = search needs
-
-enum-told : tie.Need-enum-told
-enum-told c = search needs
-
 -- the slice is a mask of the level
 fits : (c : tie.After-enum-told) → let a = c .before .before .before .before .args in given done ≡ maskCall (a .level) (a .mask .now)
 fits c = sym (ap saidOutcome (c .enum-told .given .1)) ∙ c .before .before .is-mask .ensures
@@ -28,9 +22,6 @@ put-pieces-requires c κs =
     let a = t .before .before .before .before .args in
     let m = is-mask (a .level) (a .mask .now) (fits t) in
     (m .level, m .long)
-
-enum-told-2 : tie.Need-enum-told-2
-enum-told-2 c = search needs
 
 returns : tie.Need-returns
 returns c =
@@ -53,9 +44,9 @@ pub to-rows-spec : {M : Type 1} → statement M
 to-rows-spec =
     tie.close
     (tie.spec
-    is-mask-requires
-    enum-told
+    (λ c κs. search needs)
+    (λ c. search needs)
     put-pieces-requires
-    enum-told-2
+    (λ c. search needs)
     returns
     returns-2)

@@ -11,30 +11,6 @@ use borrow.Author.Needs.{needs}
 use Rattle.ring_counter.proofs.grown_counts.Statement.{statement}
 use Rattle.ring_counter.proofs.grown_counts.Tie as tie
 
-slice-aggregate-grow : tie.Need-slice-aggregate-grow
-slice-aggregate-grow c = search needs
-
-slice-aggregate-grow-2 : tie.Need-slice-aggregate-grow-2
-slice-aggregate-grow-2 c = search needs
-
-grow-requires : tie.Need-grow-requires
-grow-requires c κs = search needs
-
-enum-told : tie.Need-enum-told
-enum-told c = search needs
-
-marked-cells-requires : tie.Need-marked-cells-requires
-marked-cells-requires c κs = search needs
-
-slice-aggregate-marked-cells : tie.Need-slice-aggregate-marked-cells
-slice-aggregate-marked-cells c = search needs
-
-marked-cells-requires-2 : tie.Need-marked-cells-requires-2
-marked-cells-requires-2 c κs = search needs
-
-enum-known-n : tie.Need-enum-known-n
-enum-known-n c = search needs
-
 abbrev entry : tie.After-grow → tie.Start
 entry c = c .before .before .before .before
 
@@ -65,13 +41,13 @@ pub grown-counts-spec : {M : Type 1} → statement M
 grown-counts-spec =
     tie.close
     (tie.spec
-    slice-aggregate-grow
-    slice-aggregate-grow-2
-    grow-requires
-    enum-told
-    marked-cells-requires
-    slice-aggregate-marked-cells
-    marked-cells-requires-2
-    enum-known-n
+    (λ c. search needs)
+    (λ c. search needs)
+    (λ c κs. search needs)
+    (λ c. search needs)
+    (λ c κs. search needs)
+    (λ c. search needs)
+    (λ c κs. search needs)
+    (λ c. search needs)
     returns
     returns-2)

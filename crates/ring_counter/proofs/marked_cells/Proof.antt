@@ -7,15 +7,6 @@ use borrow.Author.Needs.{needs}
 use Rattle.ring_counter.proofs.marked_cells.Statement.{statement}
 use Rattle.ring_counter.proofs.marked_cells.Tie as tie
 
-count-requires : tie.Need-count-requires
-count-requires c κs = search needs
-
-enum-known-n : tie.Need-enum-known-n
-enum-known-n c = search needs
-
-enum-told : tie.Need-enum-told
-enum-told c = search needs
-
 returns : tie.Need-returns
 returns c =
     let e = c .before .before .before .before .before in
@@ -27,4 +18,4 @@ returns-2 c =
     given≢refused (sym (counted (e .args .mask .now) (e .pre)) ∙ sym (c .before .before .count .ensures) ∙ ap saidCount (c .enum-told .given .1))
 
 pub marked-cells-spec : {M : Type 1} → statement M
-marked-cells-spec = tie.close (tie.spec count-requires enum-known-n enum-told returns returns-2)
+marked-cells-spec = tie.close (tie.spec (λ c κs. search needs) (λ c. search needs) (λ c. search needs) returns returns-2)

@@ -10,27 +10,6 @@ use Rattle.ring_counter.proofs.outcome_of.Tie as tie
 returns : tie.Need-returns
 returns c = other-length (c .before .before .args .input .now) (λ e. omega arith)
 
-sub-copy : tie.Need-sub-copy
-sub-copy c = search needs
-
-part-copy-start : tie.Need-part-copy-start
-part-copy-start c = search needs
-
-part-copy-end : tie.Need-part-copy-end
-part-copy-end c = search needs
-
-slice-aggregate-copy : tie.Need-slice-aggregate-copy
-slice-aggregate-copy c = search needs
-
-copy-requires : tie.Need-copy-requires
-copy-requires c κs = search needs
-
-shared-slice-read-grown-counts : tie.Need-shared-slice-read-grown-counts
-shared-slice-read-grown-counts c = search needs
-
-grown-counts-requires : tie.Need-grown-counts-requires
-grown-counts-requires c κs = search needs
-
 abbrev entry : tie.After-copy → tie.Start
 entry p = p .before .before .before .before .before
 
@@ -46,11 +25,11 @@ outcome-of-spec =
     tie.close
     (tie.spec
     returns
-    sub-copy
-    part-copy-start
-    part-copy-end
-    slice-aggregate-copy
-    copy-requires
-    shared-slice-read-grown-counts
-    grown-counts-requires
+    (λ c. search needs)
+    (λ c. search needs)
+    (λ c. search needs)
+    (λ c. search needs)
+    (λ c κs. search needs)
+    (λ c. search needs)
+    (λ c κs. search needs)
     returns-2)

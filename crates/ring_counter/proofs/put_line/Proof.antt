@@ -8,39 +8,6 @@ use Rattle.ring_counter.proofs.Lines.{counts-line}
 use Rattle.ring_counter.proofs.put_line.Statement.{statement}
 use Rattle.ring_counter.proofs.put_line.Tie as tie
 
-enum-known-outcome : tie.Need-enum-known-outcome
-enum-known-outcome c = search needs
-
-cast-append-decimal : tie.Need-cast-append-decimal
-cast-append-decimal c = search needs
-
-append-decimal-requires : tie.Need-append-decimal-requires
-append-decimal-requires c κs = search needs
-
-slice-aggregate-append : tie.Need-slice-aggregate-append
-slice-aggregate-append c = search needs
-
-append-requires : tie.Need-append-requires
-append-requires c κs = search needs
-
-cast-append-decimal-2 : tie.Need-cast-append-decimal-2
-cast-append-decimal-2 c = search needs
-
-append-decimal-requires-2 : tie.Need-append-decimal-requires-2
-append-decimal-requires-2 c κs = search needs
-
-slice-aggregate-append-2 : tie.Need-slice-aggregate-append-2
-slice-aggregate-append-2 c = search needs
-
-append-requires-2 : tie.Need-append-requires-2
-append-requires-2 c κs = search needs
-
-enum-known-outcome-2 : tie.Need-enum-known-outcome-2
-enum-known-outcome-2 c = search needs
-
-append-refusal-requires : tie.Need-append-refusal-requires
-append-refusal-requires c κs = search needs
-
 -- the slice has room for the line
 room : (c : tie.After-append-decimal-arg) → length (c .before .before .before .before .args .out .now) ≡ 64
 room c = search needs
@@ -72,16 +39,16 @@ pub put-line-spec : {M : Type 1} → statement M
 put-line-spec =
     tie.close
     (tie.spec
-    enum-known-outcome
-    cast-append-decimal
-    append-decimal-requires
-    slice-aggregate-append
-    append-requires
-    cast-append-decimal-2
-    append-decimal-requires-2
-    slice-aggregate-append-2
-    append-requires-2
-    enum-known-outcome-2
-    append-refusal-requires
+    (λ c. search needs)
+    (λ c. search needs)
+    (λ c κs. search needs)
+    (λ c. search needs)
+    (λ c κs. search needs)
+    (λ c. search needs)
+    (λ c κs. search needs)
+    (λ c. search needs)
+    (λ c κs. search needs)
+    (λ c. search needs)
+    (λ c κs. search needs)
     returns
     returns-2)

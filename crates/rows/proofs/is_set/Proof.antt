@@ -8,23 +8,8 @@ use Rattle.rows.proofs.Words.{lit-past}
 use Rattle.rows.proofs.is_set.Statement.{statement}
 use Rattle.rows.proofs.is_set.Tie as tie
 
-cast-at : tie.Need-cast-at
-cast-at c = search needs
-
 returns : tie.Need-returns
 returns c = let a = c .before .before .args in sym (lit-past (a .rows .now) (a .spot) (omega arith))
-
-mul-result : tie.Need-mul-result
-mul-result c = search needs
-
-shared-slice-read-result : tie.Need-shared-slice-read-result
-shared-slice-read-result c = search needs
-
-cast-result : tie.Need-cast-result
-cast-result c = search needs
-
-shr-result : tie.Need-shr-result
-shr-result c = search needs
 
 returns-2 : tie.Need-returns-2
 unfolding lit bit
@@ -33,4 +18,4 @@ returns-2 c = refl
 pub is-set-spec : {M : Type 1} → statement M
 is-set-spec =
     tie.close
-    (tie.spec cast-at returns mul-result shared-slice-read-result cast-result shr-result returns-2)
+    (tie.spec (λ c. search needs) returns (λ c. search needs) (λ c. search needs) (λ c. search needs) (λ c. search needs) returns-2)

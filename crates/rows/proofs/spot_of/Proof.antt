@@ -15,21 +15,6 @@ returns-2 c = let a = c .before .before .args in sym (no-row (a .octant) (a .row
 returns-3 : tie.Need-returns-3
 returns-3 c = let a = c .before .before .before .args in sym (no-col (a .octant) (a .row) (a .col) (omega arith))
 
-mul-result : tie.Need-mul-result
-mul-result c = search needs
-
-add-result : tie.Need-add-result
-add-result c = search needs
-
-add-result-2 : tie.Need-add-result-2
-add-result-2 c = search needs
-
-mul-result-2 : tie.Need-mul-result-2
-mul-result-2 c = search needs
-
-add-result-3 : tie.Need-add-result-3
-add-result-3 c = search needs
-
 returns-4 : tie.Need-returns-4
 returns-4 c = let a = c .before .before .before .args in sym (spot-in (a .octant) (a .row) (a .col) (omega arith) (omega arith) (omega arith))
 
@@ -40,9 +25,9 @@ spot-of-spec =
     returns
     returns-2
     returns-3
-    mul-result
-    add-result
-    add-result-2
-    mul-result-2
-    add-result-3
+    (λ c. search needs)
+    (λ c. search needs)
+    (λ c. search needs)
+    (λ c. search needs)
+    (λ c. search needs)
     returns-4)

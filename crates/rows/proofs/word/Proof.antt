@@ -9,14 +9,5 @@ use Rattle.rows.proofs.word.Tie as tie
 returns : tie.Need-returns
 returns c = let a = c .before .before .args in sym (List·getD-eq-default (a .rows .now) 0 {n = a .at} (omega arith))
 
-mul-result : tie.Need-mul-result
-mul-result c = search needs
-
-shared-slice-read-result : tie.Need-shared-slice-read-result
-shared-slice-read-result c = search needs
-
-returns-2 : tie.Need-returns-2
-returns-2 c = search needs
-
 pub word-spec : {M : Type 1} → statement M
-word-spec = tie.close (tie.spec returns mul-result shared-slice-read-result returns-2)
+word-spec = tie.close (tie.spec returns (λ c. search needs) (λ c. search needs) (λ c. search needs))

@@ -16,9 +16,6 @@ use Rattle.seam.proofs.join_seams.Tie as tie
 returns : tie.Need-returns
 returns c i = rw (lt-leb (c .before .args .level) 8 (omega arith))
 
-shl-size : tie.Need-shl-size
-shl-size c = search needs
-
 size-small : (level : ℕ) → level ≤ 8 → 1 * 2 ^ level % 2 ^ 32 ≤ 256
 size-small level h = rw (size-shifted level h) (size-low level h)
 
@@ -53,7 +50,7 @@ join-seams-spec =
     tie.close
     (tie.spec
     returns
-    shl-size
+    (λ c. search needs)
     join-edge-requires
     join-edge-requires-2
     join-edge-requires-3

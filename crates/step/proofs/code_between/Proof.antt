@@ -8,24 +8,6 @@ use Rattle.code.proofs.Calls.{refused-from, refused-to, given-code}
 use Rattle.step.proofs.code_between.Statement.{statement}
 use Rattle.step.proofs.code_between.Tie as tie
 
-place-of-requires : tie.Need-place-of-requires
-place-of-requires c κs = search needs
-
-enum-known-number : tie.Need-enum-known-number
-enum-known-number c = search needs
-
-enum-known-here : tie.Need-enum-known-here
-enum-known-here c = search needs
-
-place-of-requires-2 : tie.Need-place-of-requires-2
-place-of-requires-2 c κs = search needs
-
-enum-known-number-2 : tie.Need-enum-known-number-2
-enum-known-number-2 c = search needs
-
-enum-known-there : tie.Need-enum-known-there
-enum-known-there c = search needs
-
 -- the state at entry, where the first cell's place was given
 abbrev entry : tie.After-known-told2 → tie.Start
 entry c = c .before .before .before .before
@@ -64,12 +46,12 @@ pub code-between-spec : {M : Type 1} → statement M
 code-between-spec =
     tie.close
     (tie.spec
-    place-of-requires
-    enum-known-number
-    enum-known-here
-    place-of-requires-2
-    enum-known-number-2
-    enum-known-there
+    (λ c κs. search needs)
+    (λ c. search needs)
+    (λ c. search needs)
+    (λ c κs. search needs)
+    (λ c. search needs)
+    (λ c. search needs)
     find-code-requires
     returns
     returns-2

@@ -7,8 +7,5 @@ use Rattle.step.proofs.found_if.Tie as tie
 returns : tie.Need-returns
 returns c = simp (c .if1 .taken)
 
-returns-2 : tie.Need-returns-2
-returns-2 c = search needs
-
 pub found-if-spec : {M : Type 1} → statement M
-found-if-spec = tie.close (tie.spec returns returns-2)
+found-if-spec = tie.close (tie.spec returns (λ c. search needs))

@@ -12,9 +12,6 @@ use Rattle.step.proofs.Body.{rows-bound, inside-less, inside-test, down
 use Rattle.step.proofs.from_down.Statement.{statement}
 use Rattle.step.proofs.from_down.Tie as tie
 
-shl-rows : tie.Need-shl-rows
-shl-rows c = search needs
-
 -- row and column end inside the octant, and so far below what a number holds
 room : (c : tie.Start) → (c .args .row + c .args .col + 2 ≤ 2 ^ c .args .level) × (2 ^ c .args .level ≤ 2 ^ maxLevel)
 unfolding span
@@ -29,29 +26,11 @@ add-end-2 c = omega (arith, room c)
 add-found-if : tie.Need-add-found-if
 add-found-if c = omega (arith, room (c .before))
 
-found-if-requires : tie.Need-found-if-requires
-found-if-requires c κs = search needs
-
-found-if-requires-2 : tie.Need-found-if-requires-2
-found-if-requires-2 c κs = search needs
-
 add-found-if-2 : tie.Need-add-found-if-2
 add-found-if-2 c = omega (arith, room (c .before))
 
-found-if-requires-3 : tie.Need-found-if-requires-3
-found-if-requires-3 c κs = search needs
-
 add-found-if-3 : tie.Need-add-found-if-3
 add-found-if-3 c = omega (arith, room (c .before))
-
-found-if-requires-4 : tie.Need-found-if-requires-4
-found-if-requires-4 c κs = search needs
-
-one-less-requires : tie.Need-one-less-requires
-one-less-requires c κs = search needs
-
-found-if-requires-5 : tie.Need-found-if-requires-5
-found-if-requires-5 c κs = search needs
 
 returns : tie.Need-returns
 unfolding step steps span
@@ -98,18 +77,18 @@ pub from-down-spec : {M : Type 1} → statement M
 from-down-spec =
     tie.close
     (tie.spec
-    shl-rows
+    (λ c. search needs)
     add-end
     add-end-2
     add-found-if
-    found-if-requires
-    found-if-requires-2
+    (λ c κs. search needs)
+    (λ c κs. search needs)
     add-found-if-2
-    found-if-requires-3
+    (λ c κs. search needs)
     add-found-if-3
-    found-if-requires-4
-    one-less-requires
-    found-if-requires-5
+    (λ c κs. search needs)
+    (λ c κs. search needs)
+    (λ c κs. search needs)
     returns
     returns-2
     returns-3

@@ -12,9 +12,6 @@ use Rattle.step.proofs.Body.{rows-shifted, rows-bound, inside-less, ins
 use Rattle.step.proofs.from_up.Statement.{statement}
 use Rattle.step.proofs.from_up.Tie as tie
 
-shl-rows : tie.Need-shl-rows
-shl-rows c = search needs
-
 -- row and column end inside the octant, and so far below what a number holds
 room : (c : tie.Start) → (c .args .row + c .args .col + 1 ≤ 2 ^ c .args .level) × (2 ^ c .args .level ≤ 2 ^ maxLevel)
 unfolding span
@@ -26,68 +23,14 @@ add-end c = omega (arith, room c)
 add-end-2 : tie.Need-add-end-2
 add-end-2 c = omega (arith, room c)
 
-add-across : tie.Need-add-across
-add-across c = search needs
-
-mul-east : tie.Need-mul-east
-mul-east c = search needs
-
-add-east : tie.Need-add-east
-add-east c = search needs
-
-add-east-2 : tie.Need-add-east-2
-add-east-2 c = search needs
-
-mul-west : tie.Need-mul-west
-mul-west c = search needs
-
-add-west : tie.Need-add-west
-add-west c = search needs
-
-add-west-2 : tie.Need-add-west-2
-add-west-2 c = search needs
-
-one-less-requires : tie.Need-one-less-requires
-one-less-requires c κs = search needs
-
-found-if-requires : tie.Need-found-if-requires
-found-if-requires c κs = search needs
-
-one-less-requires-2 : tie.Need-one-less-requires-2
-one-less-requires-2 c κs = search needs
-
-found-if-requires-2 : tie.Need-found-if-requires-2
-found-if-requires-2 c κs = search needs
-
-found-if-requires-3 : tie.Need-found-if-requires-3
-found-if-requires-3 c κs = search needs
-
 add-found-if : tie.Need-add-found-if
 add-found-if c = omega (arith, room (c .before))
-
-found-if-requires-4 : tie.Need-found-if-requires-4
-found-if-requires-4 c κs = search needs
-
-one-less-requires-3 : tie.Need-one-less-requires-3
-one-less-requires-3 c κs = search needs
-
-found-if-requires-5 : tie.Need-found-if-requires-5
-found-if-requires-5 c κs = search needs
-
-found-if-requires-6 : tie.Need-found-if-requires-6
-found-if-requires-6 c κs = search needs
-
-found-if-requires-7 : tie.Need-found-if-requires-7
-found-if-requires-7 c κs = search needs
 
 sub-found-if : tie.Need-sub-found-if
 sub-found-if c = let s = c .before in rw (rows-shifted (s .args .level) (s .pre .0)) (omega (arith, room s))
 
 sub-found-if-2 : tie.Need-sub-found-if-2
 sub-found-if-2 c = let s = c .before in rw (rows-shifted (s .args .level) (s .pre .0)) (omega (arith, room s))
-
-found-if-requires-8 : tie.Need-found-if-requires-8
-found-if-requires-8 c κs = search needs
 
 returns : tie.Need-returns
 unfolding step steps span
@@ -148,30 +91,30 @@ pub from-up-spec : {M : Type 1} → statement M
 from-up-spec =
     tie.close
     (tie.spec
-    shl-rows
+    (λ c. search needs)
     add-end
     add-end-2
-    add-across
-    mul-east
-    add-east
-    add-east-2
-    mul-west
-    add-west
-    add-west-2
-    one-less-requires
-    found-if-requires
-    one-less-requires-2
-    found-if-requires-2
-    found-if-requires-3
+    (λ c. search needs)
+    (λ c. search needs)
+    (λ c. search needs)
+    (λ c. search needs)
+    (λ c. search needs)
+    (λ c. search needs)
+    (λ c. search needs)
+    (λ c κs. search needs)
+    (λ c κs. search needs)
+    (λ c κs. search needs)
+    (λ c κs. search needs)
+    (λ c κs. search needs)
     add-found-if
-    found-if-requires-4
-    one-less-requires-3
-    found-if-requires-5
-    found-if-requires-6
-    found-if-requires-7
+    (λ c κs. search needs)
+    (λ c κs. search needs)
+    (λ c κs. search needs)
+    (λ c κs. search needs)
+    (λ c κs. search needs)
     sub-found-if
     sub-found-if-2
-    found-if-requires-8
+    (λ c κs. search needs)
     returns
     returns-2
     returns-3

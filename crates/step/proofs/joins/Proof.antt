@@ -8,18 +8,6 @@ use Rattle.step.proofs.Body.{same-leads}
 use Rattle.step.proofs.joins.Statement.{statement}
 use Rattle.step.proofs.joins.Tie as tie
 
-target-of-requires : tie.Need-target-of-requires
-target-of-requires c κs = search needs
-
-enum-known-target : tie.Need-enum-known-target
-enum-known-target c = search needs
-
-same-place-requires : tie.Need-same-place-requires
-same-place-requires c κs = search needs
-
-enum-told : tie.Need-enum-told
-enum-told c = search needs
-
 returns : tie.Need-returns
 returns c =
     let s = c .before .before .before .before .before in
@@ -33,4 +21,4 @@ returns-2 c = simp (← (c .before .before .target-of .ensures), c .enum-told .g
 
 pub joins-spec : {M : Type 1} → statement M
 joins-spec =
-    tie.close (tie.spec target-of-requires enum-known-target same-place-requires enum-told returns returns-2)
+    tie.close (tie.spec (λ c κs. search needs) (λ c. search needs) (λ c κs. search needs) (λ c. search needs) returns returns-2)

@@ -16,9 +16,6 @@ returns-3 c =
     let s = c .before .before .before in
     simp (eq-eqb _ _ (s .before .before .before .if1 .left), eq-eqb _ _ (s .if2 .left), ne-eqb _ _ (c .if3 .taken))
 
-same-kind-requires : tie.Need-same-kind-requires
-same-kind-requires c κs = search needs
-
 returns-4 : tie.Need-returns-4
 returns-4 c =
     let t = c .before in
@@ -26,4 +23,4 @@ returns-4 c =
     simp (eq-eqb _ _ (s .before .before .before .if1 .left), eq-eqb _ _ (s .if2 .left), eq-eqb _ _ (t .if3 .left), c .same-kind .ensures)
 
 pub same-place-spec : {M : Type 1} → statement M
-same-place-spec = tie.close (tie.spec returns returns-2 returns-3 same-kind-requires returns-4)
+same-place-spec = tie.close (tie.spec returns returns-2 returns-3 (λ c κs. search needs) returns-4)

@@ -14,15 +14,6 @@ use Rattle.code.proofs.Calls.{given-step}
 use Rattle.step.proofs.step_along.Statement.{statement}
 use Rattle.step.proofs.step_along.Tie as tie
 
-place-of-requires : tie.Need-place-of-requires
-place-of-requires c κs = search needs
-
-enum-known-number : tie.Need-enum-known-number
-enum-known-number c = search needs
-
-enum-known-place : tie.Need-enum-known-place
-enum-known-place c = search needs
-
 -- the state at entry, where the cell's place was given
 abbrev entry : tie.After-known-told2 → tie.Start
 entry c = c .before .before .before .before
@@ -33,12 +24,6 @@ known c = given-place _ _ _ (rw (c .before .place .given .1) at (c .before .befo
 
 target-of-requires : tie.Need-target-of-requires
 target-of-requires c κs = let g = known c in (g .level, g .occurs)
-
-enum-told : tie.Need-enum-told
-enum-told c = search needs
-
-enum-known-target : tie.Need-enum-known-target
-enum-known-target c = search needs
 
 -- where the step leads somewhere, the call's answer is that of the place's number
 reached : (c : tie.After-known-told3) →
@@ -52,15 +37,6 @@ reached c =
     let e = rw (c .before .target .given .1) at (sym (c .before .before .before .target-of .ensures)) in
     given-number (a .level) q (g .level) (step-occurs (a .level) _ (a .code) q (g .occurs) e)
     ∙ given-step (a .level) (a .cell) (a .code) _ (some q) g e
-
-number-of-requires : tie.Need-number-of-requires
-number-of-requires c κs = search needs
-
-enum-known-number-2 : tie.Need-enum-known-number-2
-enum-known-number-2 c = search needs
-
-enum-known-number-3 : tie.Need-enum-known-number-3
-enum-known-number-3 c = search needs
 
 returns : tie.Need-returns
 returns c =
@@ -85,15 +61,15 @@ pub step-along-spec : {M : Type 1} → statement M
 step-along-spec =
     tie.close
     (tie.spec
-    place-of-requires
-    enum-known-number
-    enum-known-place
+    (λ c κs. search needs)
+    (λ c. search needs)
+    (λ c. search needs)
     target-of-requires
-    enum-told
-    enum-known-target
-    number-of-requires
-    enum-known-number-2
-    enum-known-number-3
+    (λ c. search needs)
+    (λ c. search needs)
+    (λ c κs. search needs)
+    (λ c. search needs)
+    (λ c. search needs)
     returns
     returns-2
     returns-3

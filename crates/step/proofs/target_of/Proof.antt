@@ -4,14 +4,8 @@ use borrow.Author.Needs.{needs}
 use Rattle.step.proofs.target_of.Statement.{statement}
 use Rattle.step.proofs.target_of.Tie as tie
 
-enum-told : tie.Need-enum-told
-enum-told c = search needs
-
 from-up-requires : tie.Need-from-up-requires
 from-up-requires c κs = rw (c .enum-told .given .1) at (c .before .before .pre)
-
-enum-told-2 : tie.Need-enum-told-2
-enum-told-2 c = search needs
 
 from-down-requires : tie.Need-from-down-requires
 from-down-requires c κs = rw (c .enum-told2 .given .1) at (c .before .before .pre)
@@ -25,4 +19,4 @@ returns-2 c = rw (c .before .enum-told2 .given .1) (c .from-down .ensures)
 pub target-of-spec : {M : Type 1} → statement M
 target-of-spec =
     tie.close
-    (tie.spec enum-told from-up-requires enum-told-2 from-down-requires returns returns-2)
+    (tie.spec (λ c. search needs) from-up-requires (λ c. search needs) from-down-requires returns returns-2)

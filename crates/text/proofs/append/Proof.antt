@@ -8,29 +8,8 @@ use Rattle.text.proofs.append.Tie as tie
 returns : tie.Need-returns
 returns c = let a = c .before .before .before .args in append-none (a .out .now) (a .text .now) (a .at) (omega arith)
 
-sub-if2 : tie.Need-sub-if2
-sub-if2 c = search needs
-
 returns-2 : tie.Need-returns-2
 returns-2 c = let a = c .before .before .before .before .args in append-none (a .out .now) (a .text .now) (a .at) (omega arith)
-
-sub-copy : tie.Need-sub-copy
-sub-copy c = search needs
-
-part-copy-start : tie.Need-part-copy-start
-part-copy-start c = search needs
-
-part-copy-end : tie.Need-part-copy-end
-part-copy-end c = search needs
-
-copy-requires : tie.Need-copy-requires
-copy-requires c κs = search needs
-
-add-result : tie.Need-add-result
-add-result c = search needs
-
-same-length : tie.Need-same-length
-same-length c = search needs
 
 abbrev entry : tie.After-copy → tie.Start
 entry p = p .before .before .before .before .before .before
@@ -46,12 +25,12 @@ append-spec =
     tie.close
     (tie.spec
     returns
-    sub-if2
+    (λ c. search needs)
     returns-2
-    sub-copy
-    part-copy-start
-    part-copy-end
-    copy-requires
-    add-result
-    same-length
+    (λ c. search needs)
+    (λ c. search needs)
+    (λ c. search needs)
+    (λ c κs. search needs)
+    (λ c. search needs)
+    (λ c. search needs)
     returns-3)

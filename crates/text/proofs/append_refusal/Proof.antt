@@ -7,30 +7,6 @@ use Rattle.text.proofs.Laws.{Written, written-counts, refusal-written}
 use Rattle.text.proofs.append_refusal.Statement.{statement}
 use Rattle.text.proofs.append_refusal.Tie as tie
 
-slice-aggregate-append : tie.Need-slice-aggregate-append
-slice-aggregate-append c = search needs
-
-slice-aggregate-append-2 : tie.Need-slice-aggregate-append-2
-slice-aggregate-append-2 c = search needs
-
-append-requires : tie.Need-append-requires
-append-requires c κs = search needs
-
-slice-aggregate-append-decimal : tie.Need-slice-aggregate-append-decimal
-slice-aggregate-append-decimal c = search needs
-
-append-decimal-requires : tie.Need-append-decimal-requires
-append-decimal-requires c κs = search needs
-
-slice-aggregate-append-3 : tie.Need-slice-aggregate-append-3
-slice-aggregate-append-3 c = search needs
-
-slice-aggregate-append-4 : tie.Need-slice-aggregate-append-4
-slice-aggregate-append-4 c = search needs
-
-append-requires-2 : tie.Need-append-requires-2
-append-requires-2 c κs = search needs
-
 abbrev entry : tie.After-append2 → tie.Start
 entry l = l .before .before .before .before .before .before .before .before .before .before .before
 
@@ -47,12 +23,6 @@ array-share-prefix-line c = written-counts 32 _ _ _ (together (c .before .before
 slice-aggregate-append-5 : tie.Need-slice-aggregate-append-5
 slice-aggregate-append-5 c = written-counts 32 _ _ _ (together (c .before .before .before)) .1
 
-append-requires-3 : tie.Need-append-requires-3
-append-requires-3 c κs = search needs
-
-same-length : tie.Need-same-length
-same-length c = search needs
-
 returns : tie.Need-returns
 returns c =
     let p = c .before .before in
@@ -64,16 +34,16 @@ pub append-refusal-spec : {M : Type 1} → statement M
 append-refusal-spec =
     tie.close
     (tie.spec
-    slice-aggregate-append
-    slice-aggregate-append-2
-    append-requires
-    slice-aggregate-append-decimal
-    append-decimal-requires
-    slice-aggregate-append-3
-    slice-aggregate-append-4
-    append-requires-2
+    (λ c. search needs)
+    (λ c. search needs)
+    (λ c κs. search needs)
+    (λ c. search needs)
+    (λ c κs. search needs)
+    (λ c. search needs)
+    (λ c. search needs)
+    (λ c κs. search needs)
     array-share-prefix-line
     slice-aggregate-append-5
-    append-requires-3
-    same-length
+    (λ c κs. search needs)
+    (λ c. search needs)
     returns)

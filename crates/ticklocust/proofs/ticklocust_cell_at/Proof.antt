@@ -7,18 +7,6 @@ use Rattle.c_values.proofs.Told.{value-refused, value-told}
 use Rattle.ticklocust.proofs.ticklocust_cell_at.Statement.{statement}
 use Rattle.ticklocust.proofs.ticklocust_cell_at.Tie as tie
 
-cell-at-requires : tie.Need-cell-at-requires
-cell-at-requires c κs = search needs
-
-enum-known-n : tie.Need-enum-known-n
-enum-known-n c = search needs
-
-enum-known-n-2 : tie.Need-enum-known-n-2
-enum-known-n-2 c = search needs
-
-cast-result : tie.Need-cast-result
-cast-result c = search needs
-
 -- what the call answers, of the numbers as they were given
 answers : (s : tie.After-cell-at) → saidCell (s .cell-at .result) ≡ cellCall (s .before .args .level) (s .before .args .latitude) (s .before .args .longitude)
 answers s = s .cell-at .ensures ∙ ap₂ (cellCall (s .before .args .level)) (toZ-ofZ (s .before .fits .latitude)) (toZ-ofZ (s .before .fits .longitude))
@@ -31,4 +19,4 @@ returns-2 c = value-refused saidCell _ _ _ (answers (c .before .before .before))
 
 pub ticklocust-cell-at-spec : {M : Type 1} → statement M
 ticklocust-cell-at-spec =
-    tie.close (tie.spec cell-at-requires enum-known-n enum-known-n-2 cast-result returns returns-2)
+    tie.close (tie.spec (λ c κs. search needs) (λ c. search needs) (λ c. search needs) (λ c. search needs) returns returns-2)

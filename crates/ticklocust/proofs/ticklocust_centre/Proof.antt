@@ -9,18 +9,6 @@ use Rattle.c_values.proofs.Told.{value-refused, value-told}
 use Rattle.ticklocust.proofs.ticklocust_centre.Statement.{statement}
 use Rattle.ticklocust.proofs.ticklocust_centre.Tie as tie
 
-centre-of-requires : tie.Need-centre-of-requires
-centre-of-requires c κs = search needs
-
-enum-known-north : tie.Need-enum-known-north
-enum-known-north c = search needs
-
-enum-known-n : tie.Need-enum-known-n
-enum-known-n c = search needs
-
-cast-result : tie.Need-cast-result
-cast-result c = search needs
-
 returns : tie.Need-returns
 returns c =
     ap₂ (λ (y x : ℤ). (0, (y, x))) (toZ-ofZ {w = w32} (record { sfits = c .before .struct-told .given .0 .1 }))
@@ -33,4 +21,4 @@ returns-2 c = value-refused saidCentre _ _ _ (c .before .before .before .centre-
 pub ticklocust-centre-spec : {M : Type 1} → statement M
 ticklocust-centre-spec =
     tie.close
-    (tie.spec centre-of-requires enum-known-north enum-known-n cast-result returns returns-2)
+    (tie.spec (λ c κs. search needs) (λ c. search needs) (λ c. search needs) (λ c. search needs) returns returns-2)

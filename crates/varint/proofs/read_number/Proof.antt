@@ -10,15 +10,6 @@ use Rattle.varint.proofs.Calls.{read-refused, read-high, read-longer, r
 use Rattle.varint.proofs.read_number.Statement.{statement}
 use Rattle.varint.proofs.read_number.Tie as tie
 
-read-groups-requires : tie.Need-read-groups-requires
-read-groups-requires c κs = search needs
-
-enum-known-n : tie.Need-enum-known-n
-enum-known-n c = search needs
-
-enum-known-value : tie.Need-enum-known-value
-enum-known-value c = search needs
-
 -- the state at entry, where the groups say a number
 abbrev entry : tie.After-known-told2 → tie.Start
 entry c = c .before .before .before .before .before
@@ -32,12 +23,6 @@ told c = sym (ap saidGroups (c .before .value .given .1)) ∙ c .before .before 
 
 returns : tie.Need-returns
 returns c = let a = entry (c .before) .args in read-high (a .bytes .now) (a .at) _ _ (told (c .before)) (omega arith)
-
-cast-number : tie.Need-cast-number
-cast-number c = search needs
-
-number-length-requires : tie.Need-number-length-requires
-number-length-requires c κs = search needs
 
 returns-2 : tie.Need-returns-2
 returns-2 c =
@@ -66,12 +51,12 @@ pub read-number-spec : {M : Type 1} → statement M
 read-number-spec =
     tie.close
     (tie.spec
-    read-groups-requires
-    enum-known-n
-    enum-known-value
+    (λ c κs. search needs)
+    (λ c. search needs)
+    (λ c. search needs)
     returns
-    cast-number
-    number-length-requires
+    (λ c. search needs)
+    (λ c κs. search needs)
     returns-2
     add-next
     returns-3

@@ -5,26 +5,11 @@ use Rattle.varint.proofs.Calls.{write-refused, write-given}
 use Rattle.varint.proofs.write_number.Statement.{statement}
 use Rattle.varint.proofs.write_number.Tie as tie
 
-number-length-requires : tie.Need-number-length-requires
-number-length-requires c κs = search needs
-
 returns : tie.Need-returns
 returns c = let a = c .before .before .before .args in write-refused (a .n) (a .out .now) (a .at) (omega arith)
 
-sub-if2 : tie.Need-sub-if2
-sub-if2 c = search needs
-
 returns-2 : tie.Need-returns-2
 returns-2 c = let a = c .before .before .before .before .args in write-refused (a .n) (a .out .now) (a .at) (omega arith)
-
-add-next : tie.Need-add-next
-add-next c = search needs
-
-write-groups-requires : tie.Need-write-groups-requires
-write-groups-requires c κs = search needs
-
-same-length : tie.Need-same-length
-same-length c = search needs
 
 returns-3 : tie.Need-returns-3
 returns-3 c =
@@ -35,11 +20,11 @@ pub write-number-spec : {M : Type 1} → statement M
 write-number-spec =
     tie.close
     (tie.spec
-    number-length-requires
+    (λ c κs. search needs)
     returns
-    sub-if2
+    (λ c. search needs)
     returns-2
-    add-next
-    write-groups-requires
-    same-length
+    (λ c. search needs)
+    (λ c κs. search needs)
+    (λ c. search needs)
     returns-3)

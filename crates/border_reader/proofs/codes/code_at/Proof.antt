@@ -29,32 +29,11 @@ second-told : (c : tie.After-byte-at2) →
     c .byte-at2 .result ≡ getD (a .bytes .now) (3 * a .i / 8 + 1) 0
 second-told c = c .byte-at2 .ensures
 
-mul-bit : tie.Need-mul-bit
-mul-bit c = search needs
-
-byte-at-requires : tie.Need-byte-at-requires
-byte-at-requires c κs = search needs
-
-add-byte-at : tie.Need-add-byte-at
-add-byte-at c = search needs
-
-byte-at-requires-2 : tie.Need-byte-at-requires-2
-byte-at-requires-2 c κs = search needs
-
 mul-both : tie.Need-mul-both
 mul-both c = omega (arith, second c)
 
 add-both : tie.Need-add-both
 add-both c = omega (arith, first c, second c)
-
-cast-result : tie.Need-cast-result
-cast-result c = search needs
-
-shr-result : tie.Need-shr-result
-shr-result c = search needs
-
-cast-result-2 : tie.Need-cast-result-2
-cast-result-2 c = search needs
 
 returns : tie.Need-returns
 returns c =
@@ -66,13 +45,13 @@ pub code-at-spec : {M : Type 1} → statement M
 code-at-spec =
     tie.close
     (tie.spec
-    mul-bit
-    byte-at-requires
-    add-byte-at
-    byte-at-requires-2
+    (λ c. search needs)
+    (λ c κs. search needs)
+    (λ c. search needs)
+    (λ c κs. search needs)
     mul-both
     add-both
-    cast-result
-    shr-result
-    cast-result-2
+    (λ c. search needs)
+    (λ c. search needs)
+    (λ c. search needs)
     returns)

@@ -15,26 +15,11 @@ said c =
     let bs = c .before .args .bytes .now in
     rw (c .before .pre .1) at (value-below 256 bs (λ i. omega (arith, c .shared-slice-known .given i)))
 
-code-at-requires : tie.Need-code-at-requires
-code-at-requires c κs = search needs
-
 returns : tie.Need-returns
 returns c = sym (not-padded _ _ _ (omega arith) (λ z. c .if1 .taken (c .before .code-at .ensures ∙ z)))
 
-add-code-at : tie.Need-add-code-at
-add-code-at c = search needs
-
-code-at-requires-2 : tie.Need-code-at-requires-2
-code-at-requires-2 c κs = search needs
-
 returns-2 : tie.Need-returns-2
 returns-2 c = sym (not-padded _ _ _ (omega arith) (λ z. c .if2 .taken (c .before .code-at2 .ensures ∙ z)))
-
-add-code-at-2 : tie.Need-add-code-at-2
-add-code-at-2 c = search needs
-
-code-at-requires-3 : tie.Need-code-at-requires-3
-code-at-requires-3 c κs = search needs
 
 returns-3 : tie.Need-returns-3
 returns-3 c =
@@ -46,11 +31,11 @@ pub is-padded-spec : {M : Type 1} → statement M
 is-padded-spec =
     tie.close
     (tie.spec
-    code-at-requires
+    (λ c κs. search needs)
     returns
-    add-code-at
-    code-at-requires-2
+    (λ c. search needs)
+    (λ c κs. search needs)
     returns-2
-    add-code-at-2
-    code-at-requires-3
+    (λ c. search needs)
+    (λ c κs. search needs)
     returns-3)

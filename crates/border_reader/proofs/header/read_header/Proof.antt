@@ -13,15 +13,6 @@ use Rattle.border_reader.proofs.Reading.{level-unread, level-high, star
 use Rattle.border_reader.proofs.header.read_header.Statement.{statement}
 use Rattle.border_reader.proofs.header.read_header.Tie as tie
 
-read-number-requires : tie.Need-read-number-requires
-read-number-requires c κs = search needs
-
-enum-known-n : tie.Need-enum-known-n
-enum-known-n c = search needs
-
-enum-known-level : tie.Need-enum-known-level
-enum-known-level c = search needs
-
 -- the bytes, and what is told of each number that was read
 abbrev at-level : tie.After-known-told2 → tie.Start
 at-level t = t .before .before .before .before .before
@@ -59,32 +50,11 @@ start-below c = a-cell _ _ _ (c .before .is-cell .ensures) (c .if2 .left)
 returns : tie.Need-returns
 returns c = (level-high _ _ _ (level-told (c .before)) (omega arith), tt)
 
-read-number-requires-2 : tie.Need-read-number-requires-2
-read-number-requires-2 c κs = search needs
-
-enum-known-n-2 : tie.Need-enum-known-n-2
-enum-known-n-2 c = search needs
-
-enum-known-start : tie.Need-enum-known-start
-enum-known-start c = search needs
-
-is-cell-requires : tie.Need-is-cell-requires
-is-cell-requires c κs = search needs
-
 returns-2 : tie.Need-returns-2
 returns-2 c =
     let s = c .before .before in
     let t = at-start s in
     (start-high _ _ _ (level-told t) (omega arith) _ _ (start-told s) (no-cell _ _ _ (c .before .is-cell .ensures) (c .if2 .taken)), tt)
-
-read-number-requires-3 : tie.Need-read-number-requires-3
-read-number-requires-3 c κs = search needs
-
-enum-known-n-3 : tie.Need-enum-known-n-3
-enum-known-n-3 c = search needs
-
-enum-known-count : tie.Need-enum-known-count
-enum-known-count c = search needs
 
 returns-3 : tie.Need-returns-3
 returns-3 c =
@@ -119,18 +89,18 @@ pub read-header-spec : {M : Type 1} → statement M
 read-header-spec =
     tie.close
     (tie.spec
-    read-number-requires
-    enum-known-n
-    enum-known-level
+    (λ c κs. search needs)
+    (λ c. search needs)
+    (λ c. search needs)
     returns
-    read-number-requires-2
-    enum-known-n-2
-    enum-known-start
-    is-cell-requires
+    (λ c κs. search needs)
+    (λ c. search needs)
+    (λ c. search needs)
+    (λ c κs. search needs)
     returns-2
-    read-number-requires-3
-    enum-known-n-3
-    enum-known-count
+    (λ c κs. search needs)
+    (λ c. search needs)
+    (λ c. search needs)
     returns-3
     returns-4
     returns-5

@@ -21,32 +21,11 @@ use Rattle.border_reader.proofs.codes.is_padded.Reads as is-padded-read
 use Rattle.border_reader.proofs.walking.copy_cells.Reads as copy-cells-reads
 use Rattle.border_reader.proofs.walking.walk.Reads as walk-reads
 
-cast-count : tie.Need-cast-count
-cast-count c = search needs
-
-mul-size : tie.Need-mul-size
-mul-size c = search needs
-
-add-size : tie.Need-add-size
-add-size c = search needs
-
-sub-left : tie.Need-sub-left
-sub-left c = search needs
-
 returns : tie.Need-returns
 returns c = let a = c .before .before .before .before .args in ends-early (a .bytes .now) (a .cells .now) _ _ _ _ (omega arith)
 
 returns-2 : tie.Need-returns-2
 returns-2 c = let a = c .before .before .before .before .before .args in left-over (a .bytes .now) (a .cells .now) _ _ _ _ (omega arith)
-
-sub-codes : tie.Need-sub-codes
-sub-codes c = search needs
-
-part-codes-start : tie.Need-part-codes-start
-part-codes-start c = search needs
-
-part-codes-end : tie.Need-part-codes-end
-part-codes-end c = search needs
 
 is-padded-requires : tie.Need-is-padded-requires
 is-padded-requires c κs =
@@ -78,9 +57,6 @@ returns-4 c =
     let a = entry s .args in
     no-room (a .bytes .now) (a .cells .now) _ _ _ _ (whole s) (ltb-true _ _ (sym (padded-told s) ∙ not-false _ (c .before .if3 .left))) (omega arith)
 
-slice-aggregate-walk : tie.Need-slice-aggregate-walk
-slice-aggregate-walk c = search needs
-
 walk-requires : tie.Need-walk-requires
 walk-requires c κs = (omega arith, omega arith)
 
@@ -100,20 +76,8 @@ returns-5 c =
     no-step (a .bytes .now) (a .cells .now) _ _ _ _ (whole s) (ltb-true _ _ (sym (padded-told s) ∙ not-false _ (c .before .before .before .before .before .if3 .left))) (omega arith)
     (found-none _ (sym (walk-told (c .before .before)) ∙ not-true _ (c .if5 .taken)))
 
-slice-aggregate-copy-cells : tie.Need-slice-aggregate-copy-cells
-slice-aggregate-copy-cells c = search needs
-
-add-copy-cells : tie.Need-add-copy-cells
-add-copy-cells c = search needs
-
 copy-cells-requires : tie.Need-copy-cells-requires
 copy-cells-requires c κs = (omega (arith, c .before .before .before .before .walk .kept .1 .1 .1 .1 .0), omega arith)
-
-add-t23 : tie.Need-add-t23
-add-t23 c = search needs
-
-same-length : tie.Need-same-length
-same-length c = search needs
 
 returns-6 : tie.Need-returns-6
 returns-6 c =
@@ -135,24 +99,24 @@ pub read-codes-spec : {M : Type 1} → statement M
 read-codes-spec =
     tie.close
     (tie.spec
-    cast-count
-    mul-size
-    add-size
-    sub-left
+    (λ c. search needs)
+    (λ c. search needs)
+    (λ c. search needs)
+    (λ c. search needs)
     returns
     returns-2
-    sub-codes
-    part-codes-start
-    part-codes-end
+    (λ c. search needs)
+    (λ c. search needs)
+    (λ c. search needs)
     is-padded-requires
     returns-3
     returns-4
-    slice-aggregate-walk
+    (λ c. search needs)
     walk-requires
     returns-5
-    slice-aggregate-copy-cells
-    add-copy-cells
+    (λ c. search needs)
+    (λ c. search needs)
     copy-cells-requires
-    add-t23
-    same-length
+    (λ c. search needs)
+    (λ c. search needs)
     returns-6)

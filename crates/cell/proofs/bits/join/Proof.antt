@@ -6,18 +6,9 @@ use Rattle.cell.proofs.Passes.{joined}
 use Rattle.cell.proofs.bits.join.Statement.{statement}
 use Rattle.cell.proofs.bits.join.Tie as tie
 
-mul-runs16 : tie.Need-mul-runs16
-mul-runs16 c = search needs
-
-add-runs16 : tie.Need-add-runs16
-add-runs16 c = search needs
-
-lower-requires : tie.Need-lower-requires
-lower-requires c κs = search needs
-
 returns : tie.Need-returns
 unfolding masks
 returns c = let s = c .before in c .lower .ensures ∙ joined (s .args .high) (s .args .low) (s .pre .0) (s .pre .1)
 
 pub join-spec : {M : Type 1} → statement M
-join-spec = tie.close (tie.spec mul-runs16 add-runs16 lower-requires returns)
+join-spec = tie.close (tie.spec (λ c. search needs) (λ c. search needs) (λ c κs. search needs) returns)

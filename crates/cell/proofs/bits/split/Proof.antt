@@ -7,12 +7,6 @@ use Rattle.cell.proofs.Passes.{halves}
 use Rattle.cell.proofs.bits.split.Statement.{statement}
 use Rattle.cell.proofs.bits.split.Tie as tie
 
-upper-requires : tie.Need-upper-requires
-upper-requires c κs = search needs
-
-lower-requires : tie.Need-lower-requires
-lower-requires c κs = search needs
-
 returns : tie.Need-returns
 unfolding masks
 returns c =
@@ -20,4 +14,4 @@ returns c =
     (c .before .upper .ensures ∙ h .0, c .lower .ensures ∙ h .1)
 
 pub split-spec : {M : Type 1} → statement M
-split-spec = tie.close (tie.spec upper-requires lower-requires returns)
+split-spec = tie.close (tie.spec (λ c κs. search needs) (λ c κs. search needs) returns)

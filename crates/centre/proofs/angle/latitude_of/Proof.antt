@@ -9,9 +9,6 @@ use Rattle.position.proofs.Signed.{same-number, minus, minus-fits}
 use Rattle.centre.proofs.angle.latitude_of.Statement.{statement}
 use Rattle.centre.proofs.angle.latitude_of.Tie as tie
 
-cast-north : tie.Need-cast-north
-cast-north c = search needs
-
 sub-south : tie.Need-sub-south
 sub-south c = rw (toZ-pos w32 (c .before .args .p) (omega arith), minus (c .before .args .p)) (record { sfits = minus-fits (c .before .args .p) (omega arith) })
 
@@ -24,4 +21,4 @@ returns-2 c =
     rw (toZ-pos w32 p (omega arith), minus p, le-ltb (c .before .args .octant) 4 (omega arith)) (same-number (negℤ (pos p)) (minus-fits p (omega arith)))
 
 pub latitude-of-spec : {M : Type 1} → statement M
-latitude-of-spec = tie.close (tie.spec cast-north sub-south returns returns-2)
+latitude-of-spec = tie.close (tie.spec (λ c. search needs) sub-south returns returns-2)

@@ -14,12 +14,6 @@ use Rattle.position.proofs.Laws.{beginning-inside}
 use Rattle.centre.proofs.angle.longitude_of.Statement.{statement}
 use Rattle.centre.proofs.angle.longitude_of.Tie as tie
 
-cast-east : tie.Need-cast-east
-cast-east c = search needs
-
-beginning-of-requires : tie.Need-beginning-of-requires
-beginning-of-requires c κs = search needs
-
 -- the sum of the two numbers as the code reads them
 sum : (c : tie.After-beginning-of) →
     let a = c .before .args in
@@ -36,4 +30,4 @@ returns : tie.Need-returns
 returns c = ap (λ (z : ℤ). toZ w32 (ofZ w32 z)) (sum c) ∙ same-number (beginning (c .before .args .octant) +ℤ pos (c .before .args .m)) (fits c)
 
 pub longitude-of-spec : {M : Type 1} → statement M
-longitude-of-spec = tie.close (tie.spec cast-east beginning-of-requires add-x returns)
+longitude-of-spec = tie.close (tie.spec (λ c. search needs) (λ c κs. search needs) add-x returns)

@@ -7,21 +7,9 @@ use Rattle.centre.specs.Centre.{thirds, centre, centreP, centreM}
 use Rattle.centre.proofs.thirds.centre_at.Statement.{statement}
 use Rattle.centre.proofs.thirds.centre_at.Tie as tie
 
-cast-row : tie.Need-cast-row
-cast-row c = search needs
-
-cast-col : tie.Need-cast-col
-cast-col c = search needs
-
-enum-told : tie.Need-enum-told
-enum-told c = search needs
-
 centre-by-requires : tie.Need-centre-by-requires
 unfolding span
 centre-by-requires c κs = let h = rw (c .enum-told .given .1) at (c .before .before .before .before .pre .1 .1) in omega arith
-
-enum-told-2 : tie.Need-enum-told-2
-enum-told-2 c = search needs
 
 centre-by-requires-2 : tie.Need-centre-by-requires-2
 unfolding span
@@ -39,11 +27,11 @@ pub centre-at-spec : {M : Type 1} → statement M
 centre-at-spec =
     tie.close
     (tie.spec
-    cast-row
-    cast-col
-    enum-told
+    (λ c. search needs)
+    (λ c. search needs)
+    (λ c. search needs)
     centre-by-requires
-    enum-told-2
+    (λ c. search needs)
     centre-by-requires-2
     returns
     returns-2)

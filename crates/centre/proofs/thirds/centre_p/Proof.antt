@@ -6,14 +6,8 @@ use Rattle.position.specs.Position.{q}
 use Rattle.centre.proofs.thirds.centre_p.Statement.{statement}
 use Rattle.centre.proofs.thirds.centre_p.Tie as tie
 
-mul-result : tie.Need-mul-result
-mul-result c = search needs
-
-shr-result : tie.Need-shr-result
-shr-result c = search needs
-
 returns : tie.Need-returns
 returns c = div-div-eq-div-mul (q * c .args .thirds) 3 (2 ^ c .args .level)
 
 pub centre-p-spec : {M : Type 1} → statement M
-centre-p-spec = tie.close (tie.spec mul-result shr-result returns)
+centre-p-spec = tie.close (tie.spec (λ c. search needs) (λ c. search needs) returns)

@@ -19,9 +19,6 @@ use Rattle.corner.proofs.corners.corner_of.Tie as tie
 rows : (c : tie.Start) → (1 * 2 ^ (c .args .level) % 2 ^ 32 ≡ 2 ^ (c .args .level)) × (2 ^ (c .args .level) ≤ 2 ^ maxLevel)
 rows c = (shifted 32 (c .args .level) (omega (arith, c .pre .0)), pow-mono {i = c .args .level} {j = maxLevel} (c .pre .0))
 
-shl-l : tie.Need-shl-l
-shl-l c = search needs
-
 sub-l : tie.Need-sub-l
 sub-l c = omega (arith, rows c)
 
@@ -30,9 +27,6 @@ sub-l-2 c = omega (arith, rows c)
 
 first-number-requires : tie.Need-first-number-requires
 first-number-requires c κs = omega (arith, rows c)
-
-add-first-number : tie.Need-add-first-number
-add-first-number c = search needs
 
 first-number-requires-2 : tie.Need-first-number-requires-2
 first-number-requires-2 c κs = omega (arith, rows (c .before))
@@ -57,11 +51,11 @@ pub corner-of-spec : {M : Type 1} → statement M
 corner-of-spec =
     tie.close
     (tie.spec
-    shl-l
+    (λ c. search needs)
     sub-l
     sub-l-2
     first-number-requires
-    add-first-number
+    (λ c. search needs)
     first-number-requires-2
     signed-requires
     returns)

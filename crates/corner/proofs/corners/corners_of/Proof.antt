@@ -25,9 +25,6 @@ down-inside :
 unfolding span
 down-inside c = let s = c .before .before in (rw (c .enum-told2 .given .1) at (s .pre .1 .1), rows-bound (s .args .level) (s .pre .0))
 
-enum-told : tie.Need-enum-told
-enum-told c = search needs
-
 corner-of-requires : tie.Need-corner-of-requires
 corner-of-requires c κs = omega (arith, up-inside c)
 
@@ -42,9 +39,6 @@ add-corner-of-2 c = omega (arith, up-inside (c .before .before))
 
 corner-of-requires-3 : tie.Need-corner-of-requires-3
 corner-of-requires-3 c κs = omega (arith, up-inside (c .before .before))
-
-enum-told-2 : tie.Need-enum-told-2
-enum-told-2 c = search needs
 
 add-corner-of-3 : tie.Need-add-corner-of-3
 add-corner-of-3 c = omega (arith, down-inside c)
@@ -83,13 +77,13 @@ pub corners-of-spec : {M : Type 1} → statement M
 corners-of-spec =
     tie.close
     (tie.spec
-    enum-told
+    (λ c. search needs)
     corner-of-requires
     add-corner-of
     corner-of-requires-2
     add-corner-of-2
     corner-of-requires-3
-    enum-told-2
+    (λ c. search needs)
     add-corner-of-3
     corner-of-requires-4
     add-corner-of-4

@@ -9,18 +9,6 @@ use Rattle.corner.proofs.Signed.{held}
 use Rattle.corner.proofs.corners.first_number.Statement.{statement}
 use Rattle.corner.proofs.corners.first_number.Tie as tie
 
-signed-requires : tie.Need-signed-requires
-signed-requires c κs = search needs
-
-signed-requires-2 : tie.Need-signed-requires-2
-signed-requires-2 c κs = search needs
-
-signed-requires-3 : tie.Need-signed-requires-3
-signed-requires-3 c κs = search needs
-
-signed-requires-4 : tie.Need-signed-requires-4
-signed-requires-4 c κs = search needs
-
 returns : tie.Need-returns
 unfolding equatorial
 returns c = let s = c .before .before in rw (c .before .match .keys1) (held false (s .args .l) (s .pre .0) _ (c .signed .ensures))
@@ -44,10 +32,10 @@ pub first-number-spec : {M : Type 1} → statement M
 first-number-spec =
     tie.close
     (tie.spec
-    signed-requires
-    signed-requires-2
-    signed-requires-3
-    signed-requires-4
+    (λ c κs. search needs)
+    (λ c κs. search needs)
+    (λ c κs. search needs)
+    (λ c κs. search needs)
     returns
     returns-2
     returns-3

@@ -9,14 +9,8 @@ use Rattle.corner.proofs.Signed.{zero-less, signed-fits, held}
 use Rattle.corner.proofs.corners.signed.Statement.{statement}
 use Rattle.corner.proofs.corners.signed.Tie as tie
 
-cast-result : tie.Need-cast-result
-cast-result c = search needs
-
 sub-result : tie.Need-sub-result
 sub-result c = rw (zero-less (c .before .args .n) (c .before .pre)) (signed-fits true (c .before .args .n) (c .before .pre))
-
-cast-result-2 : tie.Need-cast-result-2
-cast-result-2 c = search needs
 
 returns : tie.Need-returns
 returns c = let a = c .before .args in rw (c .if1 .taken, zero-less (a .n) (c .before .pre)) (held true (a .n) (c .before .pre) (minus (a .n)) refl)
@@ -25,4 +19,4 @@ returns-2 : tie.Need-returns-2
 returns-2 c = rw (c .if1 .left) (toZ-pos w32 (c .before .pre))
 
 pub signed-spec : {M : Type 1} → statement M
-signed-spec = tie.close (tie.spec cast-result sub-result cast-result-2 returns returns-2)
+signed-spec = tie.close (tie.spec (λ c. search needs) sub-result (λ c. search needs) returns returns-2)

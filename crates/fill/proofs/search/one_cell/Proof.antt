@@ -5,18 +5,6 @@ use Rattle.fill.proofs.Placing.{in-rows, one-marks}
 use Rattle.fill.proofs.search.one_cell.Statement.{statement}
 use Rattle.fill.proofs.search.one_cell.Tie as tie
 
-clear-requires : tie.Need-clear-requires
-clear-requires c κs = search needs
-
-mark-requires : tie.Need-mark-requires
-mark-requires c κs = search needs
-
-to-rows-requires : tie.Need-to-rows-requires
-to-rows-requires c κs = search needs
-
-same-length : tie.Need-same-length
-same-length c = search needs
-
 returns : tie.Need-returns
 returns c =
     let x = c .before .before .before .before .before .before in
@@ -30,4 +18,4 @@ returns c =
 
 pub one-cell-spec : {M : Type 1} → statement M
 one-cell-spec =
-    tie.close (tie.spec clear-requires mark-requires to-rows-requires same-length returns)
+    tie.close (tie.spec (λ c κs. search needs) (λ c κs. search needs) (λ c κs. search needs) (λ c. search needs) returns)

@@ -4,18 +4,6 @@ use Rattle.fill.proofs.Placing.{in-rows, open-long, open-marks}
 use Rattle.fill.proofs.search.open_cells.Statement.{statement}
 use Rattle.fill.proofs.search.open_cells.Tie as tie
 
-copy-requires : tie.Need-copy-requires
-copy-requires c κs = search needs
-
-complement-requires : tie.Need-complement-requires
-complement-requires c κs = search needs
-
-to-rows-requires : tie.Need-to-rows-requires
-to-rows-requires c κs = search needs
-
-same-length : tie.Need-same-length
-same-length c = search needs
-
 returns : tie.Need-returns
 returns c =
     let x = c .before .before .before .before .before .before in
@@ -29,4 +17,4 @@ returns c =
 
 pub open-cells-spec : {M : Type 1} → statement M
 open-cells-spec =
-    tie.close (tie.spec copy-requires complement-requires to-rows-requires same-length returns)
+    tie.close (tie.spec (λ c κs. search needs) (λ c κs. search needs) (λ c κs. search needs) (λ c. search needs) returns)

@@ -7,21 +7,6 @@ use Rattle.fill.proofs.Reaching.{reached-rows}
 use Rattle.fill.proofs.search.reach_all.Statement.{statement}
 use Rattle.fill.proofs.search.reach_all.Tie as tie
 
-open-cells-requires : tie.Need-open-cells-requires
-open-cells-requires c κs = search needs
-
-one-cell-requires : tie.Need-one-cell-requires
-one-cell-requires c κs = search needs
-
-flood-requires : tie.Need-flood-requires
-flood-requires c κs = search needs
-
-from-rows-requires : tie.Need-from-rows-requires
-from-rows-requires c κs = search needs
-
-same-length : tie.Need-same-length
-same-length c = search needs
-
 returns : tie.Need-returns
 returns c =
     let r = c .before .before in
@@ -40,9 +25,9 @@ pub reach-all-spec : {M : Type 1} → statement M
 reach-all-spec =
     tie.close
     (tie.spec
-    open-cells-requires
-    one-cell-requires
-    flood-requires
-    from-rows-requires
-    same-length
+    (λ c κs. search needs)
+    (λ c κs. search needs)
+    (λ c κs. search needs)
+    (λ c κs. search needs)
+    (λ c. search needs)
     returns)

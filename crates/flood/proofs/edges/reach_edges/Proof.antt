@@ -49,35 +49,14 @@ across-cell c =
     let l = low e in
     spot-told ((e .args .octant + 4) % 8) 0 (e .args .n) (c .spot-of4 .ensures) (omega arith) (omega arith) (omega arith)
 
-shl-spot-of : tie.Need-shl-spot-of
-shl-spot-of c = search needs
-
 sub-spot-of : tie.Need-sub-spot-of
 sub-spot-of c = omega (arith, size c, pow-pos (c .args .level))
 
 sub-spot-of-2 : tie.Need-sub-spot-of-2
 sub-spot-of-2 c = omega (arith, size c)
 
-spot-of-requires : tie.Need-spot-of-requires
-spot-of-requires c κs = search needs
-
-east-requires : tie.Need-east-requires
-east-requires c κs = search needs
-
-spot-of-requires-2 : tie.Need-spot-of-requires-2
-spot-of-requires-2 c κs = search needs
-
 reach-pair-requires : tie.Need-reach-pair-requires
 reach-pair-requires c κs = let w = c .before in (east-cell (w .before .before) .1, west-cell w .1)
-
-spot-of-requires-3 : tie.Need-spot-of-requires-3
-spot-of-requires-3 c κs = search needs
-
-add-spot-of : tie.Need-add-spot-of
-add-spot-of c = search needs
-
-spot-of-requires-4 : tie.Need-spot-of-requires-4
-spot-of-requires-4 c κs = search needs
 
 reach-pair-requires-2 : tie.Need-reach-pair-requires-2
 reach-pair-requires-2 c κs = let w = c .before in (here-cell (w .before) .1, across-cell w .1)
@@ -96,15 +75,15 @@ pub reach-edges-spec : {M : Type 1} → statement M
 reach-edges-spec =
     tie.close
     (tie.spec
-    shl-spot-of
+    (λ c. search needs)
     sub-spot-of
     sub-spot-of-2
-    spot-of-requires
-    east-requires
-    spot-of-requires-2
+    (λ c κs. search needs)
+    (λ c κs. search needs)
+    (λ c κs. search needs)
     reach-pair-requires
-    spot-of-requires-3
-    add-spot-of
-    spot-of-requires-4
+    (λ c κs. search needs)
+    (λ c. search needs)
+    (λ c κs. search needs)
     reach-pair-requires-2
     returns)

@@ -5,21 +5,6 @@ use Rattle.flood.proofs.Crossing.{turn-one, turn-unset}
 use Rattle.flood.proofs.edges.reach_one.Statement.{statement}
 use Rattle.flood.proofs.edges.reach_one.Tie as tie
 
-is-set-requires : tie.Need-is-set-requires
-is-set-requires c κs = search needs
-
-cast-join-word : tie.Need-cast-join-word
-cast-join-word c = search needs
-
-cast-join-word-2 : tie.Need-cast-join-word-2
-cast-join-word-2 c = search needs
-
-shl-join-word : tie.Need-shl-join-word
-shl-join-word c = search needs
-
-join-word-requires : tie.Need-join-word-requires
-join-word-requires c κs = search needs
-
 returns : tie.Need-returns
 returns c od d =
     let t = c .before .before in
@@ -32,10 +17,10 @@ pub reach-one-spec : {M : Type 1} → statement M
 reach-one-spec =
     tie.close
     (tie.spec
-    is-set-requires
-    cast-join-word
-    cast-join-word-2
-    shl-join-word
-    join-word-requires
+    (λ c κs. search needs)
+    (λ c. search needs)
+    (λ c. search needs)
+    (λ c. search needs)
+    (λ c κs. search needs)
     returns
     returns-2)

@@ -4,14 +4,8 @@ use Rattle.flood.proofs.Crossing.{turn-pair}
 use Rattle.flood.proofs.edges.reach_pair.Statement.{statement}
 use Rattle.flood.proofs.edges.reach_pair.Tie as tie
 
-reach-one-requires : tie.Need-reach-one-requires
-reach-one-requires c κs = search needs
-
-reach-one-requires-2 : tie.Need-reach-one-requires-2
-reach-one-requires-2 c κs = search needs
-
 returns : tie.Need-returns
 returns c od d = turn-pair (c .before .before .reach-one .ensures od d) (c .reach-one2 .ensures od d)
 
 pub reach-pair-spec : {M : Type 1} → statement M
-reach-pair-spec = tie.close (tie.spec reach-one-requires reach-one-requires-2 returns)
+reach-pair-spec = tie.close (tie.spec (λ c κs. search needs) (λ c κs. search needs) returns)

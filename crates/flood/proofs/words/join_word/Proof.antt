@@ -5,29 +5,11 @@ use Rattle.flood.proofs.Joining.{joined-same, joined-more}
 use Rattle.flood.proofs.words.join_word.Statement.{statement}
 use Rattle.flood.proofs.words.join_word.Tie as tie
 
-mul-last : tie.Need-mul-last
-mul-last c = search needs
-
-slice-read-last : tie.Need-slice-read-last
-slice-read-last c = search needs
-
-word-requires : tie.Need-word-requires
-word-requires c κs = search needs
-
 returns : tie.Need-returns
 returns c =
     let w = c .before in
     let a = w .before .before .before .args in
     joined-same (a .at) (a .near) (w .word .result) (a .opened .now) (a .words .now) (w .word .ensures) (omega arith) (c .if1 .taken)
-
-mul-words : tie.Need-mul-words
-mul-words c = search needs
-
-slice-write-words : tie.Need-slice-write-words
-slice-write-words c = search needs
-
-same-length : tie.Need-same-length
-same-length c = search needs
 
 returns-2 : tie.Need-returns-2
 returns-2 c =
@@ -42,11 +24,11 @@ pub join-word-spec : {M : Type 1} → statement M
 join-word-spec =
     tie.close
     (tie.spec
-    mul-last
-    slice-read-last
-    word-requires
+    (λ c. search needs)
+    (λ c. search needs)
+    (λ c κs. search needs)
     returns
-    mul-words
-    slice-write-words
-    same-length
+    (λ c. search needs)
+    (λ c. search needs)
+    (λ c. search needs)
     returns-2)

@@ -8,24 +8,6 @@ use Rattle.flood.specs.inside.Turns.{nearUp}
 use Rattle.flood.proofs.words.near_up.Statement.{statement}
 use Rattle.flood.proofs.words.near_up.Tie as tie
 
-word-requires : tie.Need-word-requires
-word-requires c κs = search needs
-
-sub-word : tie.Need-sub-word
-sub-word c = search needs
-
-word-requires-2 : tie.Need-word-requires-2
-word-requires-2 c κs = search needs
-
-sub-word-2 : tie.Need-sub-word-2
-sub-word-2 c = search needs
-
-word-requires-3 : tie.Need-word-requires-3
-word-requires-3 c κs = search needs
-
-one-on-requires : tie.Need-one-on-requires
-one-on-requires c κs = search needs
-
 returns : tie.Need-returns
 unfolding nearUp
 returns c =
@@ -44,10 +26,10 @@ pub near-up-spec : {M : Type 1} → statement M
 near-up-spec =
     tie.close
     (tie.spec
-    word-requires
-    sub-word
-    word-requires-2
-    sub-word-2
-    word-requires-3
-    one-on-requires
+    (λ c κs. search needs)
+    (λ c. search needs)
+    (λ c κs. search needs)
+    (λ c. search needs)
+    (λ c κs. search needs)
+    (λ c κs. search needs)
     returns)

@@ -4,18 +4,6 @@ use Rattle.flood.proofs.Joining.{turn-word}
 use Rattle.flood.proofs.words.reach_word.Statement.{statement}
 use Rattle.flood.proofs.words.reach_word.Tie as tie
 
-near-down-requires : tie.Need-near-down-requires
-near-down-requires c κs = search needs
-
-join-word-requires : tie.Need-join-word-requires
-join-word-requires c κs = search needs
-
-near-up-requires : tie.Need-near-up-requires
-near-up-requires c κs = search needs
-
-join-word-requires-2 : tie.Need-join-word-requires-2
-join-word-requires-2 c κs = search needs
-
 returns : tie.Need-returns
 returns c =
     let n = c .before .before in
@@ -27,4 +15,4 @@ returns c =
 pub reach-word-spec : {M : Type 1} → statement M
 reach-word-spec =
     tie.close
-    (tie.spec near-down-requires join-word-requires near-up-requires join-word-requires-2 returns)
+    (tie.spec (λ c κs. search needs) (λ c κs. search needs) (λ c κs. search needs) (λ c κs. search needs) returns)

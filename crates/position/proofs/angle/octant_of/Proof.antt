@@ -15,18 +15,6 @@ use Rattle.position.proofs.angle.octant_of.Tie as tie
 read : (c : tie.After-struct-told) → toZ w32 (ofZ w32 (c .before .args .latitude .0)) ≡ c .before .args .latitude .0
 read c = same-number (c .before .args .latitude .0) (c .struct-told .given .0 .1)
 
-from-west-requires : tie.Need-from-west-requires
-from-west-requires c κs = search needs
-
-add-north : tie.Need-add-north
-add-north c = search needs
-
-cast-north : tie.Need-cast-north
-cast-north c = search needs
-
-add-result : tie.Need-add-result
-add-result c = search needs
-
 returns : tie.Need-returns
 unfolding northOctant
 returns c =
@@ -41,4 +29,4 @@ returns-2 c =
 
 pub octant-of-spec : {M : Type 1} → statement M
 octant-of-spec =
-    tie.close (tie.spec from-west-requires add-north cast-north add-result returns returns-2)
+    tie.close (tie.spec (λ c κs. search needs) (λ c. search needs) (λ c. search needs) (λ c. search needs) returns returns-2)

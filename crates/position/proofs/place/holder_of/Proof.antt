@@ -11,9 +11,6 @@ use Rattle.position.proofs.Laws.{holder-at}
 use Rattle.position.proofs.place.holder_of.Statement.{statement}
 use Rattle.position.proofs.place.holder_of.Tie as tie
 
-rows-of-requires : tie.Need-rows-of-requires
-rows-of-requires c κs = search needs
-
 -- N·p is at most N·q, and m·(q−p) below q²
 room : (c : tie.After-rows-of) → (c .rows-of .result * c .before .args .p ≤ 2 ^ maxLevel * q) × (c .before .args .m * (q - c .before .args .p) < q * q)
 room c =
@@ -27,9 +24,6 @@ room c =
 mul-high : tie.Need-mul-high
 mul-high c = omega (arith, room c .0)
 
-sub-share-of : tie.Need-sub-share-of
-sub-share-of c = search needs
-
 mul-share-of : tie.Need-mul-share-of
 mul-share-of c = omega (arith, room c .1)
 
@@ -41,12 +35,6 @@ cast-row c = omega (arith, room (c .before) .0)
 
 cast-col : tie.Need-cast-col
 cast-col c = omega (arith, mul-le-mul (c .before .before .rows-of .ensures .2) (room (c .before .before) .1))
-
-mul-if1 : tie.Need-mul-if1
-mul-if1 c = search needs
-
-add-if1 : tie.Need-add-if1
-add-if1 c = search needs
 
 returns : tie.Need-returns
 returns c =
@@ -68,14 +56,14 @@ pub holder-of-spec : {M : Type 1} → statement M
 holder-of-spec =
     tie.close
     (tie.spec
-    rows-of-requires
+    (λ c κs. search needs)
     mul-high
-    sub-share-of
+    (λ c. search needs)
     mul-share-of
     share-of-requires
     cast-row
     cast-col
-    mul-if1
-    add-if1
+    (λ c. search needs)
+    (λ c. search needs)
     returns
     returns-2)

@@ -5,18 +5,6 @@ use Rattle.position.specs.Position.{q, triangleAt}
 use Rattle.position.proofs.place.place_at.Statement.{statement}
 use Rattle.position.proofs.place.place_at.Tie as tie
 
-rows-of-requires : tie.Need-rows-of-requires
-rows-of-requires c κs = search needs
-
-sub-row : tie.Need-sub-row
-sub-row c = search needs
-
-cast-row : tie.Need-cast-row
-cast-row c = search needs
-
-holder-of-requires : tie.Need-holder-of-requires
-holder-of-requires c κs = search needs
-
 returns : tie.Need-returns
 unfolding triangleAt
 returns c = rw (eq-eqb (c .before .before .args .p) q (c .before .if1 .taken), c .rows-of .ensures .0)
@@ -27,4 +15,4 @@ returns-2 c = rw (ne-eqb (c .before .before .args .p) q (c .before .if1 .left)) 
 
 pub place-at-spec : {M : Type 1} → statement M
 place-at-spec =
-    tie.close (tie.spec rows-of-requires sub-row cast-row holder-of-requires returns returns-2)
+    tie.close (tie.spec (λ c κs. search needs) (λ c. search needs) (λ c. search needs) (λ c κs. search needs) returns returns-2)

@@ -4,11 +4,8 @@ use Rattle.position.proofs.Laws.{rows-shifted}
 use Rattle.position.proofs.place.rows_of.Statement.{statement}
 use Rattle.position.proofs.place.rows_of.Tie as tie
 
-shl-result : tie.Need-shl-result
-shl-result c = search needs
-
 returns : tie.Need-returns
 returns c = rows-shifted (c .args .level) (c .pre)
 
 pub rows-of-spec : {M : Type 1} → statement M
-rows-of-spec = tie.close (tie.spec shl-result returns)
+rows-of-spec = tie.close (tie.spec (λ c. search needs) returns)

@@ -5,9 +5,6 @@ use Rattle.position.proofs.Laws.{share-positive, share-whole, share-res
 use Rattle.position.proofs.place.share_of.Statement.{statement}
 use Rattle.position.proofs.place.share_of.Tie as tie
 
-shr-unit : tie.Need-shr-unit
-shr-unit c = search needs
-
 div-whole : tie.Need-div-whole
 div-whole c = share-positive (c .args .level) (c .args .part) (c .pre .0)
 
@@ -23,4 +20,4 @@ returns c =
     rw (c .pre .1) (share-whole (a .level) (a .part) (c .pre .0), share-rest (a .level) (a .part) (c .pre .0))
 
 pub share-of-spec : {M : Type 1} → statement M
-share-of-spec = tie.close (tie.spec shr-unit div-whole rem-rest mul-rest returns)
+share-of-spec = tie.close (tie.spec (λ c. search needs) div-whole rem-rest mul-rest returns)

@@ -18,15 +18,6 @@ use Rattle.raster.proofs.Placed.{block-small, seat-read, squareOf, both
 use Rattle.raster.proofs.blocks.block_at.Statement.{statement}
 use Rattle.raster.proofs.blocks.block_at.Tie as tie
 
-sub-place-of : tie.Need-sub-place-of
-sub-place-of c = search needs
-
-place-of-requires : tie.Need-place-of-requires
-place-of-requires c κs = search needs
-
-enum-known-place : tie.Need-enum-known-place
-enum-known-place c = search needs
-
 abbrev entry : tie.After-place → tie.Start
 entry c = c .before .before .before
 
@@ -44,12 +35,6 @@ slot-of-requires c κs =
     let a = entry n .args in
     let p = n .place .given .0 .0 in
     block-small (a .level) (a .level - 3) (a .block) (p .octant) (p .kind) (p .row) (p .col) (entry n .pre .1) (below n) (known n)
-
-square-at-requires : tie.Need-square-at-requires
-square-at-requires c κs = search needs
-
-square-at-requires-2 : tie.Need-square-at-requires-2
-square-at-requires-2 c κs = search needs
 
 -- cell j's seat in squares of which those of the two kinds were read
 read : (v : tie.After-square-at2) (t : Kind) → let n = v .before .before .before .before in n .place .given .0 .0 .kind ≡ t →
@@ -72,27 +57,6 @@ returns c j h =
     let p = v .before .before .before .before .place .given .0 .0 in
     let none = both-empty (v .before .square-at .result) (v .square-at2 .result) (c .if1 .taken) in
     bit-zero j ∙ sym (bit-zero _) ∙ read v (p .kind) refl (λ t s. 0) none j h
-
-in-quarters-requires : tie.Need-in-quarters-requires
-in-quarters-requires c κs = search needs
-
-in-quarters-requires-2 : tie.Need-in-quarters-requires-2
-in-quarters-requires-2 c κs = search needs
-
-enum-told : tie.Need-enum-told
-enum-told c = search needs
-
-gather-requires : tie.Need-gather-requires
-gather-requires c κs = search needs
-
-enum-told-2 : tie.Need-enum-told-2
-enum-told-2 c = search needs
-
-gather-requires-2 : tie.Need-gather-requires-2
-gather-requires-2 c κs = search needs
-
-enum-told-3 : tie.Need-enum-told-3
-enum-told-3 c = search needs
 
 returns-2 : tie.Need-returns-2
 unfolding squares
@@ -124,20 +88,20 @@ pub block-at-spec : {M : Type 1} → statement M
 block-at-spec =
     tie.close
     (tie.spec
-    sub-place-of
-    place-of-requires
-    enum-known-place
+    (λ c. search needs)
+    (λ c κs. search needs)
+    (λ c. search needs)
     slot-of-requires
-    square-at-requires
-    square-at-requires-2
+    (λ c κs. search needs)
+    (λ c κs. search needs)
     returns
-    in-quarters-requires
-    in-quarters-requires-2
-    enum-told
-    gather-requires
-    enum-told-2
-    gather-requires-2
-    enum-told-3
+    (λ c κs. search needs)
+    (λ c κs. search needs)
+    (λ c. search needs)
+    (λ c κs. search needs)
+    (λ c. search needs)
+    (λ c κs. search needs)
+    (λ c. search needs)
     returns-2
     returns-3
     returns-4)

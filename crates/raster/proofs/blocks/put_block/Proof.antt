@@ -20,15 +20,6 @@ use Rattle.raster.proofs.Placed.{block-small, square-added}
 use Rattle.raster.proofs.blocks.put_block.Statement.{statement}
 use Rattle.raster.proofs.blocks.put_block.Tie as tie
 
-sub-place-of : tie.Need-sub-place-of
-sub-place-of c = search needs
-
-place-of-requires : tie.Need-place-of-requires
-place-of-requires c κs = search needs
-
-enum-known-place : tie.Need-enum-known-place
-enum-known-place c = search needs
-
 abbrev entry : tie.After-place → tie.Start
 entry c = c .before .before .before
 
@@ -46,42 +37,6 @@ slot-of-requires c κs =
     let a = entry n .args in
     let p = n .place .given .0 .0 in
     block-small (a .level) (a .level - 3) (a .block) (p .octant) (p .kind) (p .row) (p .col) (entry n .pre .1) (below n) (known n)
-
-scatter-requires : tie.Need-scatter-requires
-scatter-requires c κs = search needs
-
-enum-told : tie.Need-enum-told
-enum-told c = search needs
-
-in-rows-requires : tie.Need-in-rows-requires
-in-rows-requires c κs = search needs
-
-join-square-requires : tie.Need-join-square-requires
-join-square-requires c κs = search needs
-
-in-rows-requires-2 : tie.Need-in-rows-requires-2
-in-rows-requires-2 c κs = search needs
-
-join-square-requires-2 : tie.Need-join-square-requires-2
-join-square-requires-2 c κs = search needs
-
-enum-told-2 : tie.Need-enum-told-2
-enum-told-2 c = search needs
-
-in-rows-requires-3 : tie.Need-in-rows-requires-3
-in-rows-requires-3 c κs = search needs
-
-join-square-requires-3 : tie.Need-join-square-requires-3
-join-square-requires-3 c κs = search needs
-
-in-rows-requires-4 : tie.Need-in-rows-requires-4
-in-rows-requires-4 c κs = search needs
-
-join-square-requires-4 : tie.Need-join-square-requires-4
-join-square-requires-4 c κs = search needs
-
-enum-told-3 : tie.Need-enum-told-3
-enum-told-3 c = search needs
 
 -- a square of the word's cells, joined with the rows of its kind
 joined : (w : tie.After-scatter) (t : Kind) → let n = w .before .before .before in n .place .given .0 .0 .kind ≡ t →
@@ -133,22 +88,22 @@ pub put-block-spec : {M : Type 1} → statement M
 put-block-spec =
     tie.close
     (tie.spec
-    sub-place-of
-    place-of-requires
-    enum-known-place
+    (λ c. search needs)
+    (λ c κs. search needs)
+    (λ c. search needs)
     slot-of-requires
-    scatter-requires
-    enum-told
-    in-rows-requires
-    join-square-requires
-    in-rows-requires-2
-    join-square-requires-2
-    enum-told-2
-    in-rows-requires-3
-    join-square-requires-3
-    in-rows-requires-4
-    join-square-requires-4
-    enum-told-3
+    (λ c κs. search needs)
+    (λ c. search needs)
+    (λ c κs. search needs)
+    (λ c κs. search needs)
+    (λ c κs. search needs)
+    (λ c κs. search needs)
+    (λ c. search needs)
+    (λ c κs. search needs)
+    (λ c κs. search needs)
+    (λ c κs. search needs)
+    (λ c κs. search needs)
+    (λ c. search needs)
     returns
     returns-2
     returns-3)

@@ -19,21 +19,12 @@ use Rattle.raster.proofs.Held.{place-small, kind-told, sameKind, one-ad
 use Rattle.raster.proofs.cells.put_cell.Statement.{statement}
 use Rattle.raster.proofs.cells.put_cell.Tie as tie
 
-place-of-requires : tie.Need-place-of-requires
-place-of-requires c κs = search needs
-
-enum-known-place : tie.Need-enum-known-place
-enum-known-place c = search needs
-
 abbrev entry : tie.After-place → tie.Start
 entry c = c .before .before .before
 
 -- where the cell lies
 known : (c : tie.After-place) → Given (entry c .args .level) (entry c .args .cell) (placeOf (c .place .given .0 .0))
 known c = given-place _ _ _ (rw (c .place .given .1) at (c .before .before .place-of .ensures))
-
-spot-of-requires : tie.Need-spot-of-requires
-spot-of-requires c κs = search needs
 
 -- the spot that was computed
 spot-is : (s : tie.After-spot-of) → let p = s .before .before .place .given .0 .0 in (s .spot-of .result ≡ spot (p .octant) (p .row) (p .col)) × (s .spot-of .result < spotCount)
@@ -42,21 +33,6 @@ spot-is s =
     let p = n .place .given .0 .0 in
     let b = place-small (entry n .args .level) (p .kind) (p .octant) (p .row) (p .col) (omega arith) (known n .occurs) in
     spot-told (p .octant) (p .row) (p .col) (s .spot-of .ensures) (b .0) (omega arith) (omega arith)
-
-enum-told : tie.Need-enum-told
-enum-told c = search needs
-
-set-bit-requires : tie.Need-set-bit-requires
-set-bit-requires c κs = search needs
-
-enum-told-2 : tie.Need-enum-told-2
-enum-told-2 c = search needs
-
-set-bit-requires-2 : tie.Need-set-bit-requires-2
-set-bit-requires-2 c κs = search needs
-
-enum-told-3 : tie.Need-enum-told-3
-enum-told-3 c = search needs
 
 -- what is set at the cell's spot, in the rows of its kind and in those of the other
 at-spot : (n : tie.After-place) (t : Kind) → n .place .given .0 .0 .kind ≡ t → (s : Kind) (q r : List ℕ) →
@@ -95,14 +71,14 @@ pub put-cell-spec : {M : Type 1} → statement M
 put-cell-spec =
     tie.close
     (tie.spec
-    place-of-requires
-    enum-known-place
-    spot-of-requires
-    enum-told
-    set-bit-requires
-    enum-told-2
-    set-bit-requires-2
-    enum-told-3
+    (λ c κs. search needs)
+    (λ c. search needs)
+    (λ c κs. search needs)
+    (λ c. search needs)
+    (λ c κs. search needs)
+    (λ c. search needs)
+    (λ c κs. search needs)
+    (λ c. search needs)
     returns
     returns-2
     returns-3)

@@ -7,12 +7,6 @@ use Rattle.raster.proofs.Pieces.{added-same, added-none, one-cell, no-c
 use Rattle.raster.proofs.cells.put_marked.Statement.{statement}
 use Rattle.raster.proofs.cells.put_marked.Tie as tie
 
-is-marked-requires : tie.Need-is-marked-requires
-is-marked-requires c κs = search needs
-
-put-cell-requires : tie.Need-put-cell-requires
-put-cell-requires c κs = search needs
-
 returns : tie.Need-returns
 returns c =
     let t = c .before .before .before in
@@ -30,4 +24,4 @@ returns-2 c =
     (added-none Up (a .level) _ (a .up .now) (λ x h. none x), added-none Down (a .level) _ (a .down .now) (λ x h. none x))
 
 pub put-marked-spec : {M : Type 1} → statement M
-put-marked-spec = tie.close (tie.spec is-marked-requires put-cell-requires returns returns-2)
+put-marked-spec = tie.close (tie.spec (λ c κs. search needs) (λ c κs. search needs) returns returns-2)

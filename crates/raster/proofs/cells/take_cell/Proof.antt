@@ -12,15 +12,6 @@ use Rattle.raster.proofs.Pieces.{one-cell, no-cell}
 use Rattle.raster.proofs.cells.take_cell.Statement.{statement}
 use Rattle.raster.proofs.cells.take_cell.Tie as tie
 
-is-cell-set-requires : tie.Need-is-cell-set-requires
-is-cell-set-requires c κs = search needs
-
-mark-requires : tie.Need-mark-requires
-mark-requires c κs = search needs
-
-same-length : tie.Need-same-length
-same-length c = search needs
-
 returns : tie.Need-returns
 returns c x =
     let t = c .before .before .before .before in
@@ -39,4 +30,4 @@ returns-2 c x =
 
 pub take-cell-spec : {M : Type 1} → statement M
 take-cell-spec =
-    tie.close (tie.spec is-cell-set-requires mark-requires same-length returns returns-2)
+    tie.close (tie.spec (λ c κs. search needs) (λ c κs. search needs) (λ c. search needs) returns returns-2)

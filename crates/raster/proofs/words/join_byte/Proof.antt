@@ -5,33 +5,6 @@ use Rattle.raster.proofs.Joined.{lit-byte}
 use Rattle.raster.proofs.words.join_byte.Statement.{statement}
 use Rattle.raster.proofs.words.join_byte.Tie as tie
 
-cast-at : tie.Need-cast-at
-cast-at c = search needs
-
-mul-words : tie.Need-mul-words
-mul-words c = search needs
-
-slice-read-words : tie.Need-slice-read-words
-slice-read-words c = search needs
-
-mul-words-2 : tie.Need-mul-words-2
-mul-words-2 c = search needs
-
-cast-words : tie.Need-cast-words
-cast-words c = search needs
-
-shl-words : tie.Need-shl-words
-shl-words c = search needs
-
-mul-words-3 : tie.Need-mul-words-3
-mul-words-3 c = search needs
-
-slice-write-words : tie.Need-slice-write-words
-slice-write-words c = search needs
-
-same-length : tie.Need-same-length
-same-length c = search needs
-
 returns : tie.Need-returns
 returns c i = let a = c .before .args in lit-byte (a .words .now) (a .slot) (a .byte) i (omega arith) (omega arith)
 
@@ -39,13 +12,13 @@ pub join-byte-spec : {M : Type 1} → statement M
 join-byte-spec =
     tie.close
     (tie.spec
-    cast-at
-    mul-words
-    slice-read-words
-    mul-words-2
-    cast-words
-    shl-words
-    mul-words-3
-    slice-write-words
-    same-length
+    (λ c. search needs)
+    (λ c. search needs)
+    (λ c. search needs)
+    (λ c. search needs)
+    (λ c. search needs)
+    (λ c. search needs)
+    (λ c. search needs)
+    (λ c. search needs)
+    (λ c. search needs)
     returns)

@@ -8,24 +8,12 @@ use Rattle.rows.proofs.Words.{set-here}
 use Rattle.seam.proofs.bits.join_bits.Statement.{statement}
 use Rattle.seam.proofs.bits.join_bits.Tie as tie
 
-is-set-requires : tie.Need-is-set-requires
-is-set-requires c κs = search needs
-
-set-bit-requires : tie.Need-set-bit-requires
-set-bit-requires c κs = search needs
-
 returns : tie.Need-returns
 returns c =
     let t = c .before .before in
     let a = t .before .before .before .args in
     first-lit (a .first) (a .second) (lit (a .points .now)) _ (sym (t .before .is-set .ensures) ∙ t .if1 .taken)
     (λ i. c .set-bit .ensures i ∙ set-here (lit (a .points .now) i) i (a .second) (omega arith))
-
-is-set-requires-2 : tie.Need-is-set-requires-2
-is-set-requires-2 c κs = search needs
-
-set-bit-requires-2 : tie.Need-set-bit-requires-2
-set-bit-requires-2 c κs = search needs
 
 returns-2 : tie.Need-returns-2
 returns-2 c =
@@ -45,10 +33,10 @@ pub join-bits-spec : {M : Type 1} → statement M
 join-bits-spec =
     tie.close
     (tie.spec
-    is-set-requires
-    set-bit-requires
+    (λ c κs. search needs)
+    (λ c κs. search needs)
     returns
-    is-set-requires-2
-    set-bit-requires-2
+    (λ c κs. search needs)
+    (λ c κs. search needs)
     returns-2
     returns-3)

@@ -7,27 +7,6 @@ use Rattle.seam.specs.inside.Pairs.{countOf}
 use Rattle.seam.proofs.edges.count_of.Statement.{statement}
 use Rattle.seam.proofs.edges.count_of.Tie as tie
 
-enum-told : tie.Need-enum-told
-enum-told c = search needs
-
-mul-result : tie.Need-mul-result
-mul-result c = search needs
-
-enum-told-2 : tie.Need-enum-told-2
-enum-told-2 c = search needs
-
-enum-told-3 : tie.Need-enum-told-3
-enum-told-3 c = search needs
-
-enum-told-4 : tie.Need-enum-told-4
-enum-told-4 c = search needs
-
-add-result : tie.Need-add-result
-add-result c = search needs
-
-mul-result-2 : tie.Need-mul-result-2
-mul-result-2 c = search needs
-
 returns : tie.Need-returns
 unfolding countOf
 returns c = omega (arith, ap (λ (e : Edge). countOf e (c .before .before .args .size)) (c .enum-told .given .1))
@@ -48,13 +27,13 @@ pub count-of-spec : {M : Type 1} → statement M
 count-of-spec =
     tie.close
     (tie.spec
-    enum-told
-    mul-result
-    enum-told-2
-    enum-told-3
-    enum-told-4
-    add-result
-    mul-result-2
+    (λ c. search needs)
+    (λ c. search needs)
+    (λ c. search needs)
+    (λ c. search needs)
+    (λ c. search needs)
+    (λ c. search needs)
+    (λ c. search needs)
     returns
     returns-2
     returns-3

@@ -73,47 +73,23 @@ equator-spots c =
       spot-told _ _ _ (c .spot-of8 .ensures) (omega arith) (omega arith) (omega arith),
     )
 
-enum-told : tie.Need-enum-told
-enum-told c = search needs
-
-east-requires : tie.Need-east-requires
-east-requires c κs = search needs
-
 sub-spot-of : tie.Need-sub-spot-of
 unfolding countOf
 sub-spot-of c = omega (arith, meridian-pair (c .before .before))
 
-spot-of-requires : tie.Need-spot-of-requires
-spot-of-requires c κs = search needs
-
-spot-of-requires-2 : tie.Need-spot-of-requires-2
-spot-of-requires-2 c κs = search needs
-
 join-bits-requires : tie.Need-join-bits-requires
 join-bits-requires c κs = let p = meridian-spots c in (p .0 .1, p .1 .1)
-
-enum-told-2 : tie.Need-enum-told-2
-enum-told-2 c = search needs
 
 mul-octant : tie.Need-mul-octant
 unfolding countOf
 mul-octant c = omega (arith, beside-pair c)
 
-spot-of-requires-3 : tie.Need-spot-of-requires-3
-spot-of-requires-3 c κs = search needs
-
 add-spot-of : tie.Need-add-spot-of
 unfolding countOf
 add-spot-of c = omega (arith, beside-pair (c .before .before))
 
-spot-of-requires-4 : tie.Need-spot-of-requires-4
-spot-of-requires-4 c κs = search needs
-
 join-bits-requires-2 : tie.Need-join-bits-requires-2
 join-bits-requires-2 c κs = let p = beside-spots c in (p .0 .1, p .1 .1)
-
-enum-told-3 : tie.Need-enum-told-3
-enum-told-3 c = search needs
 
 mul-octant-2 : tie.Need-mul-octant-2
 unfolding countOf
@@ -123,30 +99,12 @@ add-octant : tie.Need-add-octant
 unfolding countOf
 add-octant c = omega (arith, across-pair c)
 
-spot-of-requires-5 : tie.Need-spot-of-requires-5
-spot-of-requires-5 c κs = search needs
-
 add-spot-of-2 : tie.Need-add-spot-of-2
 unfolding countOf
 add-spot-of-2 c = omega (arith, across-pair (c .before .before))
 
-spot-of-requires-6 : tie.Need-spot-of-requires-6
-spot-of-requires-6 c κs = search needs
-
 join-bits-requires-3 : tie.Need-join-bits-requires-3
 join-bits-requires-3 c κs = let p = across-spots c in (p .0 .1, p .1 .1)
-
-enum-told-4 : tie.Need-enum-told-4
-enum-told-4 c = search needs
-
-spot-of-requires-7 : tie.Need-spot-of-requires-7
-spot-of-requires-7 c κs = search needs
-
-add-spot-of-3 : tie.Need-add-spot-of-3
-add-spot-of-3 c = search needs
-
-spot-of-requires-8 : tie.Need-spot-of-requires-8
-spot-of-requires-8 c κs = search needs
 
 join-bits-requires-4 : tie.Need-join-bits-requires-4
 join-bits-requires-4 c κs = let p = equator-spots c in (p .0 .1, p .1 .1)
@@ -183,29 +141,29 @@ pub join-one-spec : {M : Type 1} → statement M
 join-one-spec =
     tie.close
     (tie.spec
-    enum-told
-    east-requires
+    (λ c. search needs)
+    (λ c κs. search needs)
     sub-spot-of
-    spot-of-requires
-    spot-of-requires-2
+    (λ c κs. search needs)
+    (λ c κs. search needs)
     join-bits-requires
-    enum-told-2
+    (λ c. search needs)
     mul-octant
-    spot-of-requires-3
+    (λ c κs. search needs)
     add-spot-of
-    spot-of-requires-4
+    (λ c κs. search needs)
     join-bits-requires-2
-    enum-told-3
+    (λ c. search needs)
     mul-octant-2
     add-octant
-    spot-of-requires-5
+    (λ c κs. search needs)
     add-spot-of-2
-    spot-of-requires-6
+    (λ c κs. search needs)
     join-bits-requires-3
-    enum-told-4
-    spot-of-requires-7
-    add-spot-of-3
-    spot-of-requires-8
+    (λ c. search needs)
+    (λ c κs. search needs)
+    (λ c. search needs)
+    (λ c κs. search needs)
     join-bits-requires-4
     returns
     returns-2

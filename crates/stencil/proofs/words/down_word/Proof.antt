@@ -9,33 +9,6 @@ use borrow.Author.Needs.{needs}
 use Rattle.stencil.proofs.words.down_word.Statement.{statement}
 use Rattle.stencil.proofs.words.down_word.Tie as tie
 
-add-word : tie.Need-add-word
-add-word c = search needs
-
-word-requires : tie.Need-word-requires
-word-requires c κs = search needs
-
-word-requires-2 : tie.Need-word-requires-2
-word-requires-2 c κs = search needs
-
-add-word-2 : tie.Need-add-word-2
-add-word-2 c = search needs
-
-word-requires-3 : tie.Need-word-requires-3
-word-requires-3 c κs = search needs
-
-one-back-requires : tie.Need-one-back-requires
-one-back-requires c κs = search needs
-
-add-word-3 : tie.Need-add-word-3
-add-word-3 c = search needs
-
-word-requires-4 : tie.Need-word-requires-4
-word-requires-4 c κs = search needs
-
-one-back-requires-2 : tie.Need-one-back-requires-2
-one-back-requires-2 c κs = search needs
-
 returns : tie.Need-returns
 unfolding downOf
 returns c =
@@ -52,13 +25,13 @@ pub down-word-spec : {M : Type 1} → statement M
 down-word-spec =
     tie.close
     (tie.spec
-    add-word
-    word-requires
-    word-requires-2
-    add-word-2
-    word-requires-3
-    one-back-requires
-    add-word-3
-    word-requires-4
-    one-back-requires-2
+    (λ c. search needs)
+    (λ c κs. search needs)
+    (λ c κs. search needs)
+    (λ c. search needs)
+    (λ c κs. search needs)
+    (λ c κs. search needs)
+    (λ c. search needs)
+    (λ c κs. search needs)
+    (λ c κs. search needs)
     returns)

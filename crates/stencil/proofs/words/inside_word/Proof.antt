@@ -15,21 +15,6 @@ size-is e = size-shifted (e .args .level) (e .pre .0)
 returns : tie.Need-returns
 returns c = before-rows (c .before .args .level) (c .before .args .w) (omega arith)
 
-cast-at : tie.Need-cast-at
-cast-at c = search needs
-
-sub-first : tie.Need-sub-first
-sub-first c = search needs
-
-mul-first : tie.Need-mul-first
-mul-first c = search needs
-
-add-first : tie.Need-add-first
-add-first c = search needs
-
-shl-size : tie.Need-shl-size
-shl-size c = search needs
-
 returns-2 : tie.Need-returns-2
 returns-2 c =
     let a = c .before .before .args in
@@ -43,9 +28,6 @@ add-low-ones c =
     let m = size-low k (c .before .before .pre .0) in
     omega arith
 
-low-ones-requires : tie.Need-low-ones-requires
-low-ones-requires c κs = search needs
-
 returns-3 : tie.Need-returns-3
 returns-3 c =
     let a = c .before .before .before .args in
@@ -57,12 +39,12 @@ inside-word-spec =
     tie.close
     (tie.spec
     returns
-    cast-at
-    sub-first
-    mul-first
-    add-first
-    shl-size
+    (λ c. search needs)
+    (λ c. search needs)
+    (λ c. search needs)
+    (λ c. search needs)
+    (λ c. search needs)
     returns-2
     add-low-ones
-    low-ones-requires
+    (λ c κs. search needs)
     returns-3)

@@ -14,9 +14,6 @@ returns c j h =
     let n = c .before .args .count in
     ones-bits 64 j ∙ lt-ltb j 64 h ∙ sym (lt-ltb j n (omega arith))
 
-shl-result : tie.Need-shl-result
-shl-result c = search needs
-
 sub-result : tie.Need-sub-result
 sub-result c =
     let n = c .before .args .count in
@@ -28,4 +25,4 @@ returns-2 c j h =
     rw (shifted 64 n (omega arith)) (ones-bits n j)
 
 pub low-ones-spec : {M : Type 1} → statement M
-low-ones-spec = tie.close (tie.spec returns shl-result sub-result returns-2)
+low-ones-spec = tie.close (tie.spec returns (λ c. search needs) sub-result returns-2)

@@ -9,51 +9,6 @@ use borrow.Author.Needs.{needs}
 use Rattle.stencil.proofs.words.points_word.Statement.{statement}
 use Rattle.stencil.proofs.words.points_word.Tie as tie
 
-word-requires : tie.Need-word-requires
-word-requires c κs = search needs
-
-sub-word : tie.Need-sub-word
-sub-word c = search needs
-
-word-requires-2 : tie.Need-word-requires-2
-word-requires-2 c κs = search needs
-
-sub-word-2 : tie.Need-sub-word-2
-sub-word-2 c = search needs
-
-word-requires-3 : tie.Need-word-requires-3
-word-requires-3 c κs = search needs
-
-one-on-requires : tie.Need-one-on-requires
-one-on-requires c κs = search needs
-
-sub-word-3 : tie.Need-sub-word-3
-sub-word-3 c = search needs
-
-word-requires-4 : tie.Need-word-requires-4
-word-requires-4 c κs = search needs
-
-word-requires-5 : tie.Need-word-requires-5
-word-requires-5 c κs = search needs
-
-sub-word-4 : tie.Need-sub-word-4
-sub-word-4 c = search needs
-
-word-requires-6 : tie.Need-word-requires-6
-word-requires-6 c κs = search needs
-
-one-on-requires-2 : tie.Need-one-on-requires-2
-one-on-requires-2 c κs = search needs
-
-sub-word-5 : tie.Need-sub-word-5
-sub-word-5 c = search needs
-
-word-requires-7 : tie.Need-word-requires-7
-word-requires-7 c κs = search needs
-
-one-on-requires-3 : tie.Need-one-on-requires-3
-one-on-requires-3 c κs = search needs
-
 returns : tie.Need-returns
 unfolding pointsOf
 returns c =
@@ -77,19 +32,19 @@ pub points-word-spec : {M : Type 1} → statement M
 points-word-spec =
     tie.close
     (tie.spec
-    word-requires
-    sub-word
-    word-requires-2
-    sub-word-2
-    word-requires-3
-    one-on-requires
-    sub-word-3
-    word-requires-4
-    word-requires-5
-    sub-word-4
-    word-requires-6
-    one-on-requires-2
-    sub-word-5
-    word-requires-7
-    one-on-requires-3
+    (λ c κs. search needs)
+    (λ c. search needs)
+    (λ c κs. search needs)
+    (λ c. search needs)
+    (λ c κs. search needs)
+    (λ c κs. search needs)
+    (λ c. search needs)
+    (λ c κs. search needs)
+    (λ c κs. search needs)
+    (λ c. search needs)
+    (λ c κs. search needs)
+    (λ c κs. search needs)
+    (λ c. search needs)
+    (λ c κs. search needs)
+    (λ c κs. search needs)
     returns)

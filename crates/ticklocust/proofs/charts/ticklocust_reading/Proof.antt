@@ -8,27 +8,6 @@ use Rattle.c_values.proofs.Told.{form-refused, form-told}
 use Rattle.ticklocust.proofs.charts.ticklocust_reading.Statement.{statement}
 use Rattle.ticklocust.proofs.charts.ticklocust_reading.Tie as tie
 
-reading-of-requires : tie.Need-reading-of-requires
-reading-of-requires c κs = search needs
-
-enum-known-t : tie.Need-enum-known-t
-enum-known-t c = search needs
-
-enum-known-t-2 : tie.Need-enum-known-t-2
-enum-known-t-2 c = search needs
-
-cast-days : tie.Need-cast-days
-cast-days c = search needs
-
-enum-told : tie.Need-enum-told
-enum-told c = search needs
-
-enum-known-n : tie.Need-enum-known-n
-enum-known-n c = search needs
-
-cast-result : tie.Need-cast-result
-cast-result c = search needs
-
 returns : tie.Need-returns
 returns c = form-told saidReading kindTemperatureDays _ _ _ (c .before .before .before .reading-of .ensures) (c .before .t .given .1) _ _ refl
 
@@ -46,13 +25,13 @@ pub ticklocust-reading-spec : {M : Type 1} → statement M
 ticklocust-reading-spec =
     tie.close
     (tie.spec
-    reading-of-requires
-    enum-known-t
-    enum-known-t-2
-    cast-days
-    enum-told
-    enum-known-n
-    cast-result
+    (λ c κs. search needs)
+    (λ c. search needs)
+    (λ c. search needs)
+    (λ c. search needs)
+    (λ c. search needs)
+    (λ c. search needs)
+    (λ c. search needs)
     returns
     returns-2
     returns-3

@@ -6,26 +6,8 @@ use Rattle.ticklocust.proofs.masks.ticklocust_fill.Statement.{statement
 use Rattle.ticklocust.proofs.masks.ticklocust_fill.Tie as tie
 use Rattle.refusal.specs.Outcome.{saidOutcome}
 
-fill-requires : tie.Need-fill-requires
-fill-requires c κs = search needs
-
-enum-told : tie.Need-enum-told
-enum-told c = search needs
-
-enum-known-n : tie.Need-enum-known-n
-enum-known-n c = search needs
-
-cast-result : tie.Need-cast-result
-cast-result c = search needs
-
-same-length : tie.Need-same-length
-same-length c = search needs
-
 returns : tie.Need-returns
 returns c = work-done saidOutcome _ _ _ _ (c .before .before .before .before .fill .ensures) (c .enum-told .given .1) _ refl
-
-same-length-2 : tie.Need-same-length-2
-same-length-2 c = search needs
 
 returns-2 : tie.Need-returns-2
 returns-2 c = work-refused saidOutcome _ _ _ _ (c .before .before .before .before .before .fill .ensures) (c .before .n .given .1) _ refl
@@ -34,11 +16,11 @@ pub ticklocust-fill-spec : {M : Type 1} → statement M
 ticklocust-fill-spec =
     tie.close
     (tie.spec
-    fill-requires
-    enum-told
-    enum-known-n
-    cast-result
-    same-length
+    (λ c κs. search needs)
+    (λ c. search needs)
+    (λ c. search needs)
+    (λ c. search needs)
+    (λ c. search needs)
     returns
-    same-length-2
+    (λ c. search needs)
     returns-2)

@@ -7,21 +7,6 @@ use Rattle.c_values.proofs.Told.{form-refused, form-told}
 use Rattle.ticklocust.proofs.masks.ticklocust_within.Statement.{statement}
 use Rattle.ticklocust.proofs.masks.ticklocust_within.Tie as tie
 
-within-requires : tie.Need-within-requires
-within-requires c κs = search needs
-
-enum-told : tie.Need-enum-told
-enum-told c = search needs
-
-enum-known-cell : tie.Need-enum-known-cell
-enum-known-cell c = search needs
-
-enum-known-n : tie.Need-enum-known-n
-enum-known-n c = search needs
-
-cast-result : tie.Need-cast-result
-cast-result c = search needs
-
 returns : tie.Need-returns
 returns c =
     form-told saidWithin lackingCell _ _ _ (c .before .before .within .ensures) (c .enum-told .given .1) _ (c .before .before .before .before .before .args .lacking .now) refl
@@ -36,11 +21,11 @@ pub ticklocust-within-spec : {M : Type 1} → statement M
 ticklocust-within-spec =
     tie.close
     (tie.spec
-    within-requires
-    enum-told
-    enum-known-cell
-    enum-known-n
-    cast-result
+    (λ c κs. search needs)
+    (λ c. search needs)
+    (λ c. search needs)
+    (λ c. search needs)
+    (λ c. search needs)
     returns
     returns-2
     returns-3)

@@ -6,9 +6,6 @@ use borrow.Author.Needs.{needs}
 use Rattle.ticklocust.proofs.steps.code_byte.Statement.{statement}
 use Rattle.ticklocust.proofs.steps.code_byte.Tie as tie
 
-cast-result : tie.Need-cast-result
-cast-result c = search needs
-
 returns : tie.Need-returns
 returns c = inl refl
 
@@ -16,4 +13,4 @@ returns-2 : tie.Need-returns-2
 returns-2 c = inr (omega arith, omega arith)
 
 pub code-byte-spec : {M : Type 1} → statement M
-code-byte-spec = tie.close (tie.spec cast-result returns returns-2)
+code-byte-spec = tie.close (tie.spec (λ c. search needs) returns returns-2)

@@ -8,21 +8,6 @@ use Rattle.ticklocust.proofs.Codes.{same-step}
 use Rattle.ticklocust.proofs.steps.ticklocust_step.Statement.{statement}
 use Rattle.ticklocust.proofs.steps.ticklocust_step.Tie as tie
 
-code-byte-requires : tie.Need-code-byte-requires
-code-byte-requires c κs = search needs
-
-step-along-requires : tie.Need-step-along-requires
-step-along-requires c κs = search needs
-
-enum-known-n : tie.Need-enum-known-n
-enum-known-n c = search needs
-
-enum-known-n-2 : tie.Need-enum-known-n-2
-enum-known-n-2 c = search needs
-
-cast-result : tie.Need-cast-result
-cast-result c = search needs
-
 -- what the call answers, of the code as it was given
 answers : (s : tie.After-step-along) →
     let a = s .before .before .args in
@@ -39,10 +24,10 @@ pub ticklocust-step-spec : {M : Type 1} → statement M
 ticklocust-step-spec =
     tie.close
     (tie.spec
-    code-byte-requires
-    step-along-requires
-    enum-known-n
-    enum-known-n-2
-    cast-result
+    (λ c κs. search needs)
+    (λ c κs. search needs)
+    (λ c. search needs)
+    (λ c. search needs)
+    (λ c. search needs)
     returns
     returns-2)

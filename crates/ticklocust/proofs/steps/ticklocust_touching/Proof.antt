@@ -6,26 +6,8 @@ use Rattle.c_values.proofs.Told.{lent-refused, lent-told}
 use Rattle.ticklocust.proofs.steps.ticklocust_touching.Statement.{statement}
 use Rattle.ticklocust.proofs.steps.ticklocust_touching.Tie as tie
 
-touching-cells-requires : tie.Need-touching-cells-requires
-touching-cells-requires c κs = search needs
-
-enum-known-n : tie.Need-enum-known-n
-enum-known-n c = search needs
-
-enum-known-n-2 : tie.Need-enum-known-n-2
-enum-known-n-2 c = search needs
-
-cast-result : tie.Need-cast-result
-cast-result c = search needs
-
-same-length : tie.Need-same-length
-same-length c = search needs
-
 returns : tie.Need-returns
 returns c = lent-told saidList _ _ _ _ (c .before .before .before .before .before .touching-cells .ensures) (c .before .n .given .1) _ _ refl
-
-same-length-2 : tie.Need-same-length-2
-same-length-2 c = search needs
 
 returns-2 : tie.Need-returns-2
 returns-2 c = lent-refused saidList _ _ _ _ (c .before .before .before .before .before .touching-cells .ensures) (c .before .n2 .given .1) _ _ refl
@@ -34,11 +16,11 @@ pub ticklocust-touching-spec : {M : Type 1} → statement M
 ticklocust-touching-spec =
     tie.close
     (tie.spec
-    touching-cells-requires
-    enum-known-n
-    enum-known-n-2
-    cast-result
-    same-length
+    (λ c κs. search needs)
+    (λ c. search needs)
+    (λ c. search needs)
+    (λ c. search needs)
+    (λ c. search needs)
     returns
-    same-length-2
+    (λ c. search needs)
     returns-2)

@@ -13,20 +13,11 @@ use Rattle.adjacency.proofs.Cubes.{row-of, col-of}
 use Rattle.touch.proofs.cube.cube_of.Statement.{statement}
 use Rattle.touch.proofs.cube.cube_of.Tie as tie
 
-shl-left-over : tie.Need-shl-left-over
-shl-left-over c = search needs
-
 left-over-requires : tie.Need-left-over-requires
 left-over-requires c κs = rw (shifted 32 (c .args .level) (omega (arith, c .pre .0))) (c .pre .1 .1)
 
-first-side-requires : tie.Need-first-side-requires
-first-side-requires c κs = search needs
-
 add-first-side : tie.Need-add-first-side
 add-first-side c = omega (arith, c .before .before .pre .1 .0)
-
-first-side-requires-2 : tie.Need-first-side-requires-2
-first-side-requires-2 c κs = search needs
 
 returns : tie.Need-returns
 unfolding cubeOf leftOver
@@ -47,4 +38,4 @@ returns c =
 pub cube-of-spec : {M : Type 1} → statement M
 cube-of-spec =
     tie.close
-    (tie.spec shl-left-over left-over-requires first-side-requires add-first-side first-side-requires-2 returns)
+    (tie.spec (λ c. search needs) left-over-requires (λ c κs. search needs) add-first-side (λ c κs. search needs) returns)

@@ -8,15 +8,6 @@ use borrow.Author.Needs.{needs}
 use Rattle.touch.proofs.cube.number_at.Statement.{statement}
 use Rattle.touch.proofs.cube.number_at.Tie as tie
 
-number-of-requires : tie.Need-number-of-requires
-number-of-requires c κs = search needs
-
-enum-known-n : tie.Need-enum-known-n
-enum-known-n c = search needs
-
-enum-told : tie.Need-enum-told
-enum-told c = search needs
-
 -- the number is given
 numbered : (c : tie.After-number-of) → let a = c .before .args in saidNumber (c .number-of .result) ≡ given (number (a .level) (placeOf (a .place)))
 numbered c = let a = c .before .args in c .number-of .ensures ∙ given-number (a .level) (placeOf (a .place)) (c .before .pre .0) (c .before .pre .1)
@@ -28,4 +19,4 @@ returns-2 : tie.Need-returns-2
 returns-2 c = absurd (given≢refused (sym (numbered (c .before .before)) ∙ ap saidNumber (c .enum-told .given .1)))
 
 pub number-at-spec : {M : Type 1} → statement M
-number-at-spec = tie.close (tie.spec number-of-requires enum-known-n enum-told returns returns-2)
+number-at-spec = tie.close (tie.spec (λ c κs. search needs) (λ c. search needs) (λ c. search needs) returns returns-2)

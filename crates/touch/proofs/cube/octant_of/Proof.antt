@@ -5,12 +5,6 @@ use borrow.Author.Needs.{needs}
 use Rattle.touch.proofs.cube.octant_of.Statement.{statement}
 use Rattle.touch.proofs.cube.octant_of.Tie as tie
 
-northern-octant-requires : tie.Need-northern-octant-requires
-northern-octant-requires c κs = search needs
-
-add-result : tie.Need-add-result
-add-result c = search needs
-
 returns : tie.Need-returns
 returns c = rw (c .if1 .taken, c .before .northern-octant .ensures .0)
 
@@ -18,4 +12,4 @@ returns-2 : tie.Need-returns-2
 returns-2 c = rw (c .if1 .left, c .before .northern-octant .ensures .0) (sym (add-zero _))
 
 pub octant-of-spec : {M : Type 1} → statement M
-octant-of-spec = tie.close (tie.spec northern-octant-requires add-result returns returns-2)
+octant-of-spec = tie.close (tie.spec (λ c κs. search needs) (λ c. search needs) returns returns-2)

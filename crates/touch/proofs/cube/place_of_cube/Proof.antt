@@ -7,21 +7,6 @@ use Rattle.adjacency.specs.inside.Cube.{sum, placeIn}
 use Rattle.touch.proofs.cube.place_of_cube.Statement.{statement}
 use Rattle.touch.proofs.cube.place_of_cube.Tie as tie
 
-add-total : tie.Need-add-total
-add-total c = search needs
-
-add-total-2 : tie.Need-add-total-2
-add-total-2 c = search needs
-
-octant-of-requires : tie.Need-octant-of-requires
-octant-of-requires c κs = search needs
-
-column-of-requires : tie.Need-column-of-requires
-column-of-requires c κs = search needs
-
-add-if1 : tie.Need-add-if1
-add-if1 c = search needs
-
 -- the state at the entry
 abbrev entry : (c : tie.After-column-of) → tie.Start
 entry c = c .before .before .before .before .before .before .before
@@ -44,10 +29,10 @@ pub place-of-cube-spec : {M : Type 1} → statement M
 place-of-cube-spec =
     tie.close
     (tie.spec
-    add-total
-    add-total-2
-    octant-of-requires
-    column-of-requires
-    add-if1
+    (λ c. search needs)
+    (λ c. search needs)
+    (λ c κs. search needs)
+    (λ c κs. search needs)
+    (λ c. search needs)
     returns
     returns-2)

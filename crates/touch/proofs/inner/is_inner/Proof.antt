@@ -34,9 +34,6 @@ add-result c = omega (arith, small (c .before .before))
 add-result-2 : tie.Need-add-result-2
 add-result-2 c = omega (arith, small (c .before .before))
 
-shl-result : tie.Need-shl-result
-shl-result c = search needs
-
 returns-3 : tie.Need-returns-3
 unfolding isInner
 returns-3 c =
@@ -47,4 +44,4 @@ returns-3 c =
     rw (row-of (p .kind) (p .row) (p .col), col-of (p .kind) (p .row) (p .col), a, b, shifted 32 (s .args .level) (omega (arith, s .pre .0)))
 
 pub is-inner-spec : {M : Type 1} → statement M
-is-inner-spec = tie.close (tie.spec returns returns-2 add-result add-result-2 shl-result returns-3)
+is-inner-spec = tie.close (tie.spec returns returns-2 add-result add-result-2 (λ c. search needs) returns-3)

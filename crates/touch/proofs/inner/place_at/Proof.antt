@@ -30,26 +30,11 @@ step-at-requires c κs = (omega arith, steps-at (c .args .place .kind) (c .args 
 add-row : tie.Need-add-row
 add-row c = omega (arith, c .before .step-at .ensures .1)
 
-sub-row : tie.Need-sub-row
-sub-row c = search needs
-
 step-at-requires-2 : tie.Need-step-at-requires-2
 step-at-requires-2 c κs = let a = c .before .before .args in (omega arith, steps-at (a .place .kind) (a .i) (omega arith) .col-small)
 
 add-col : tie.Need-add-col
 add-col c = omega (arith, c .before .step-at2 .ensures .1)
-
-sub-col : tie.Need-sub-col
-sub-col c = search needs
-
-cast-if1 : tie.Need-cast-if1
-cast-if1 c = search needs
-
-shr-if1 : tie.Need-shr-if1
-shr-if1 c = search needs
-
-other-kind-requires : tie.Need-other-kind-requires
-other-kind-requires c κs = search needs
 
 returns-2 : tie.Need-returns-2
 unfolding stepped
@@ -65,12 +50,12 @@ place-at-spec =
     (tie.spec
     step-at-requires
     add-row
-    sub-row
+    (λ c. search needs)
     step-at-requires-2
     add-col
-    sub-col
-    cast-if1
-    shr-if1
+    (λ c. search needs)
+    (λ c. search needs)
+    (λ c. search needs)
     returns
-    other-kind-requires
+    (λ c κs. search needs)
     returns-2)

@@ -10,45 +10,6 @@ returns : tie.Need-returns
 unfolding touchingWay
 returns c = rw (eq-eqb (c .before .args .w) 13 (c .if1 .taken))
 
-add-lo : tie.Need-add-lo
-add-lo c = search needs
-
-add-lo-2 : tie.Need-add-lo-2
-add-lo-2 c = search needs
-
-add-hi : tie.Need-add-hi
-add-hi c = search needs
-
-add-hi-2 : tie.Need-add-hi-2
-add-hi-2 c = search needs
-
-add-hi-3 : tie.Need-add-hi-3
-add-hi-3 c = search needs
-
-add-hi-4 : tie.Need-add-hi-4
-add-hi-4 c = search needs
-
-add-hi-5 : tie.Need-add-hi-5
-add-hi-5 c = search needs
-
-taken-off-requires : tie.Need-taken-off-requires
-taken-off-requires c κs = search needs
-
-taken-off-requires-2 : tie.Need-taken-off-requires-2
-taken-off-requires-2 c κs = search needs
-
-add-off : tie.Need-add-off
-add-off c = search needs
-
-taken-off-requires-3 : tie.Need-taken-off-requires-3
-taken-off-requires-3 c κs = search needs
-
-add-off-2 : tie.Need-add-off-2
-add-off-2 c = search needs
-
-sums-fit-requires : tie.Need-sums-fit-requires
-sums-fit-requires c κs = search needs
-
 -- where the way was found to be another than 13
 abbrev moves : (c : tie.After-sums-fit) → tie.Else1
 moves c = c .before .before .before .before .before .before .before
@@ -67,17 +28,17 @@ is-touching-way-spec =
     tie.close
     (tie.spec
     returns
-    add-lo
-    add-lo-2
-    add-hi
-    add-hi-2
-    add-hi-3
-    add-hi-4
-    add-hi-5
-    taken-off-requires
-    taken-off-requires-2
-    add-off
-    taken-off-requires-3
-    add-off-2
-    sums-fit-requires
+    (λ c. search needs)
+    (λ c. search needs)
+    (λ c. search needs)
+    (λ c. search needs)
+    (λ c. search needs)
+    (λ c. search needs)
+    (λ c. search needs)
+    (λ c κs. search needs)
+    (λ c κs. search needs)
+    (λ c. search needs)
+    (λ c κs. search needs)
+    (λ c. search needs)
+    (λ c κs. search needs)
     returns-2)
