@@ -24,20 +24,8 @@ abbrev μ-loop : tie.MeasureT-loop
 loop-holds : tie.Need-loop-holds Inv-loop μ-loop
 loop-holds c = (omega arith, refl, below-none _, rest-all (c .args .mask .now))
 
-slice-read-mask : tie.Need-slice-read-mask Inv-loop μ-loop
-slice-read-mask c = omega arith
-
 sub-mask : tie.Need-sub-mask Inv-loop μ-loop
 sub-mask c = omega (arith, c .slice-known .given (c .before .before .loop .i))
-
-slice-write-mask : tie.Need-slice-write-mask Inv-loop μ-loop
-slice-write-mask c = omega arith
-
-add-i : tie.Need-add-i Inv-loop μ-loop
-add-i c = omega arith
-
-loop-less : tie.Need-loop-less Inv-loop μ-loop
-loop-less c = omega arith
 
 loop-again : tie.Need-loop-again Inv-loop μ-loop
 loop-again c =
@@ -68,11 +56,11 @@ complement-spec =
     Inv-loop
     μ-loop
     loop-holds
-    slice-read-mask
+    (λ c. omega arith)
     sub-mask
-    slice-write-mask
-    add-i
-    loop-less
+    (λ c. omega arith)
+    (λ c. omega arith)
+    (λ c. omega arith)
     loop-again
     same-length
     returns)

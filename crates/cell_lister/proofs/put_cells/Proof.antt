@@ -17,21 +17,6 @@ Inv-loop level cells count out₀ a b place₀ i₀ t12 out place i = (i ≤ cou
 abbrev μ-loop : tie.MeasureT-loop
 μ-loop level cells count out₀ a b place₀ i₀ t12 out place i = count - i
 
-slice-aggregate-append : tie.Need-slice-aggregate-append Inv-loop μ-loop
-slice-aggregate-append c = search needs
-
-append-requires : tie.Need-append-requires Inv-loop μ-loop
-append-requires c κs = search needs
-
-append-decimal-requires : tie.Need-append-decimal-requires Inv-loop μ-loop
-append-decimal-requires c κs = search needs
-
-slice-aggregate-append-2 : tie.Need-slice-aggregate-append-2 Inv-loop μ-loop
-slice-aggregate-append-2 c = search needs
-
-append-requires-2 : tie.Need-append-requires-2 Inv-loop μ-loop
-append-requires-2 c κs = search needs
-
 abbrev entry : tie.After-append2 Inv-loop μ-loop → tie.Start Inv-loop μ-loop
 entry l = l .before .before .before .before .before .before .before .before .before .before .before .before .before .before
 
@@ -51,29 +36,8 @@ begun l =
 loop-holds : tie.Need-loop-holds Inv-loop μ-loop
 loop-holds c = let w = begun (c .before .before) in (omega arith, record { long = refl; end = w .end; front = w .front })
 
-mul-append-decimal : tie.Need-mul-append-decimal Inv-loop μ-loop
-mul-append-decimal c = search needs
-
-shared-slice-read-append-decimal : tie.Need-shared-slice-read-append-decimal Inv-loop μ-loop
-shared-slice-read-append-decimal c = search needs
-
 cast-append-decimal : tie.Need-cast-append-decimal Inv-loop μ-loop
 cast-append-decimal c = omega (arith, c .shared-slice-known2 .given (c .before .before .before .loop .i))
-
-append-decimal-requires-2 : tie.Need-append-decimal-requires-2 Inv-loop μ-loop
-append-decimal-requires-2 c κs = search needs
-
-slice-aggregate-append-3 : tie.Need-slice-aggregate-append-3 Inv-loop μ-loop
-slice-aggregate-append-3 c = search needs
-
-append-requires-3 : tie.Need-append-requires-3 Inv-loop μ-loop
-append-requires-3 c κs = search needs
-
-add-i : tie.Need-add-i Inv-loop μ-loop
-add-i c = search needs
-
-loop-less : tie.Need-loop-less Inv-loop μ-loop
-loop-less c = search needs
 
 loop-again : tie.Need-loop-again Inv-loop μ-loop
 loop-again c =
@@ -105,20 +69,20 @@ put-cells-spec =
     (tie.spec
     Inv-loop
     μ-loop
-    slice-aggregate-append
-    append-requires
-    append-decimal-requires
-    slice-aggregate-append-2
-    append-requires-2
+    (λ c. search needs)
+    (λ c κs. search needs)
+    (λ c κs. search needs)
+    (λ c. search needs)
+    (λ c κs. search needs)
     loop-holds
-    mul-append-decimal
-    shared-slice-read-append-decimal
+    (λ c. search needs)
+    (λ c. search needs)
     cast-append-decimal
-    append-decimal-requires-2
-    slice-aggregate-append-3
-    append-requires-3
-    add-i
-    loop-less
+    (λ c κs. search needs)
+    (λ c. search needs)
+    (λ c κs. search needs)
+    (λ c. search needs)
+    (λ c. search needs)
     loop-again
     same-length
     returns)

@@ -29,39 +29,6 @@ loop-holds c =
     let f = dayAt (a .limit) (a .new .now) (a .clouds .now) (a .temperatures .now) (a .ages .now) in
     (omega arith, refl, refl, none-rewritten f (a .temperatures .now) (a .ages .now) _ refl)
 
-cast-is-marked : tie.Need-cast-is-marked Inv-loop μ-loop
-cast-is-marked c = omega arith
-
-is-marked-requires : tie.Need-is-marked-requires Inv-loop μ-loop
-is-marked-requires c κs = search needs
-
-mul-cell-after : tie.Need-mul-cell-after Inv-loop μ-loop
-mul-cell-after c = search needs
-
-shared-slice-read-cell-after : tie.Need-shared-slice-read-cell-after Inv-loop μ-loop
-shared-slice-read-cell-after c = omega arith
-
-mul-cell-after-2 : tie.Need-mul-cell-after-2 Inv-loop μ-loop
-mul-cell-after-2 c = search needs
-
-slice-read-cell-after : tie.Need-slice-read-cell-after Inv-loop μ-loop
-slice-read-cell-after c = omega arith
-
-slice-read-cell-after-2 : tie.Need-slice-read-cell-after-2 Inv-loop μ-loop
-slice-read-cell-after-2 c = omega arith
-
-cell-after-requires : tie.Need-cell-after-requires Inv-loop μ-loop
-cell-after-requires c κs = omega arith
-
-mul-temperatures : tie.Need-mul-temperatures Inv-loop μ-loop
-mul-temperatures c = search needs
-
-slice-write-temperatures : tie.Need-slice-write-temperatures Inv-loop μ-loop
-slice-write-temperatures c = omega arith
-
-slice-write-ages : tie.Need-slice-write-ages Inv-loop μ-loop
-slice-write-ages c = omega arith
-
 abbrev entry : tie.At-loop Inv-loop μ-loop → tie.Start Inv-loop μ-loop
 entry c = c .before .before .before .before .before
 
@@ -88,9 +55,6 @@ with-cell-requires c κs =
       omega (arith, n, count-le (l .i) (λ i. readingOf (f i .0) (f i .1))),
       λ z. ap (λ (p : Float × ℕ). inRange (p .0)) e ∙ fresh-inside _ _ _ _ _ (sym (ap (λ (p : Float × ℕ). p .1) e) ∙ z),
     )
-
-add-i : tie.Need-add-i Inv-loop μ-loop
-add-i c = omega arith
 
 loop-less : tie.Need-loop-less Inv-loop μ-loop
 loop-less c = simp length-set (omega arith)
@@ -129,19 +93,19 @@ rewrite-spec =
     Inv-loop
     μ-loop
     loop-holds
-    cast-is-marked
-    is-marked-requires
-    mul-cell-after
-    shared-slice-read-cell-after
-    mul-cell-after-2
-    slice-read-cell-after
-    slice-read-cell-after-2
-    cell-after-requires
-    mul-temperatures
-    slice-write-temperatures
-    slice-write-ages
+    (λ c. omega arith)
+    (λ c κs. search needs)
+    (λ c. search needs)
+    (λ c. omega arith)
+    (λ c. search needs)
+    (λ c. omega arith)
+    (λ c. omega arith)
+    (λ c κs. omega arith)
+    (λ c. search needs)
+    (λ c. omega arith)
+    (λ c. omega arith)
     with-cell-requires
-    add-i
+    (λ c. omega arith)
     loop-less
     loop-again
     same-length

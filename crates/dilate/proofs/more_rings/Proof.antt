@@ -25,9 +25,6 @@ Inv-loop level rings points₀ within next₀ left₀ points next left =
 abbrev μ-loop : tie.MeasureT-loop
 μ-loop level rings points₀ within next₀ left₀ points next left = left
 
-mark-inside-requires : tie.Need-mark-inside-requires Inv-loop μ-loop
-mark-inside-requires c κs = search needs
-
 -- the first array has the level's points
 within : (c : tie.After-mark-inside Inv-loop μ-loop) → (i : ℕ) → lit (c .mark-inside .last .1 .0) i ≡ inside (c .before .before .args .level) i
 within c =
@@ -48,12 +45,6 @@ ring-requires-2 : tie.Need-ring-requires-2 Inv-loop μ-loop
 ring-requires-2 c κs =
     let l = c .before .before .before .before .before .before .before .before in
     (l .before .before .before .pre .0, within (l .before), l .loop .inv .1)
-
-sub-left : tie.Need-sub-left Inv-loop μ-loop
-sub-left c = search needs
-
-loop-less : tie.Need-loop-less Inv-loop μ-loop
-loop-less c = omega arith
 
 loop-again : tie.Need-loop-again Inv-loop μ-loop
 loop-again c =
@@ -96,12 +87,12 @@ more-rings-spec =
     (tie.spec
     Inv-loop
     μ-loop
-    mark-inside-requires
+    (λ c κs. search needs)
     loop-holds
     ring-requires
     ring-requires-2
-    sub-left
-    loop-less
+    (λ c. search needs)
+    (λ c. omega arith)
     loop-again
     ring-requires-3
     returns

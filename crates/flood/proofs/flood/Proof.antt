@@ -28,9 +28,6 @@ returns c = record {
 loop-holds : tie.Need-loop-holds Inv-loop μ-loop
 loop-holds c = (added-none, λ e. clash refl e)
 
-go-round-requires : tie.Need-go-round-requires Inv-loop μ-loop
-go-round-requires c κs = omega arith
-
 loop-less : tie.Need-loop-less Inv-loop μ-loop
 loop-less c =
     let t = c .before .before .before in
@@ -54,4 +51,4 @@ returns-2 c =
 pub flood-spec : {M : Type 1} → statement M
 flood-spec =
     tie.close
-    (tie.spec Inv-loop μ-loop returns loop-holds go-round-requires loop-less loop-again returns-2)
+    (tie.spec Inv-loop μ-loop returns loop-holds (λ c κs. omega arith) loop-less loop-again returns-2)

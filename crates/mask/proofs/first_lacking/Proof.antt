@@ -32,33 +32,6 @@ bytes-holds c = (omega arith, refl, below-none _)
 loop-holds : tie.Need-loop-holds Inv-loop μ-loop Inv-bytes μ-bytes
 loop-holds c = (omega arith, omega arith, c .before .bytes .inv .2)
 
-shared-slice-read-if1 : tie.Need-shared-slice-read-if1 Inv-loop μ-loop Inv-bytes μ-bytes
-shared-slice-read-if1 c = omega arith
-
-cast-if1 : tie.Need-cast-if1 Inv-loop μ-loop Inv-bytes μ-bytes
-cast-if1 c = omega arith
-
-shr-if1 : tie.Need-shr-if1 Inv-loop μ-loop Inv-bytes μ-bytes
-shr-if1 c = omega arith
-
-shared-slice-read-if2 : tie.Need-shared-slice-read-if2 Inv-loop μ-loop Inv-bytes μ-bytes
-shared-slice-read-if2 c = omega arith
-
-cast-if2 : tie.Need-cast-if2 Inv-loop μ-loop Inv-bytes μ-bytes
-cast-if2 c = omega arith
-
-shr-if2 : tie.Need-shr-if2 Inv-loop μ-loop Inv-bytes μ-bytes
-shr-if2 c = omega arith
-
-add-j : tie.Need-add-j Inv-loop μ-loop Inv-bytes μ-bytes
-add-j c = omega arith
-
-add-cell : tie.Need-add-cell Inv-loop μ-loop Inv-bytes μ-bytes
-add-cell c = omega arith
-
-loop-less : tie.Need-loop-less Inv-loop μ-loop Inv-bytes μ-bytes
-loop-less c = omega arith
-
 loop-again : tie.Need-loop-again Inv-loop μ-loop Inv-bytes μ-bytes
 loop-again c =
     let t = c .before .before .before in
@@ -73,12 +46,6 @@ loop-again c =
     (λ w. unmarked x y i (l .j) h (w .left))
     (c .if1 .came)) in
     (omega arith, omega arith, below-more _ _ (l .inv .2) here)
-
-add-i : tie.Need-add-i Inv-loop μ-loop Inv-bytes μ-bytes
-add-i c = omega arith
-
-bytes-less : tie.Need-bytes-less Inv-loop μ-loop Inv-bytes μ-bytes
-bytes-less c = omega arith
 
 bytes-again : tie.Need-bytes-again Inv-loop μ-loop Inv-bytes μ-bytes
 bytes-again c = (omega arith, omega arith, c .before .loop .inv .2)
@@ -105,18 +72,18 @@ first-lacking-spec =
     μ-bytes
     bytes-holds
     loop-holds
-    shared-slice-read-if1
-    cast-if1
-    shr-if1
-    shared-slice-read-if2
-    cast-if2
-    shr-if2
-    add-j
-    add-cell
-    loop-less
+    (λ c. omega arith)
+    (λ c. omega arith)
+    (λ c. omega arith)
+    (λ c. omega arith)
+    (λ c. omega arith)
+    (λ c. omega arith)
+    (λ c. omega arith)
+    (λ c. omega arith)
+    (λ c. omega arith)
     loop-again
-    add-i
-    bytes-less
+    (λ c. omega arith)
+    (λ c. omega arith)
     bytes-again
     returns
     returns-2)

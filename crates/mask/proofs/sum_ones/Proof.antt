@@ -21,9 +21,6 @@ loop-holds : tie.Need-loop-holds Inv-loop μ-loop
 unfolding size
 loop-holds c = (omega arith, refl)
 
-shared-slice-read-sum : tie.Need-shared-slice-read-sum Inv-loop μ-loop
-shared-slice-read-sum c = omega arith
-
 -- with the ones of one byte more the sum is that of the bytes up to it
 one-more : (c : tie.After-shared-slice-known Inv-loop μ-loop) →
     let l = c .before .before .loop in
@@ -38,12 +35,6 @@ add-sum : tie.Need-add-sum Inv-loop μ-loop
 add-sum c =
     let l = c .before .before .loop in
     omega (arith, one-more c, size-le (8 * suc (l .i)) (marked (c .before .before .before .args .mask .now)))
-
-add-i : tie.Need-add-i Inv-loop μ-loop
-add-i c = omega arith
-
-loop-less : tie.Need-loop-less Inv-loop μ-loop
-loop-less c = omega arith
 
 loop-again : tie.Need-loop-again Inv-loop μ-loop
 loop-again c = (omega arith, rw add-one (one-more c))
@@ -61,9 +52,9 @@ sum-ones-spec =
     Inv-loop
     μ-loop
     loop-holds
-    shared-slice-read-sum
+    (λ c. omega arith)
     add-sum
-    add-i
-    loop-less
+    (λ c. omega arith)
+    (λ c. omega arith)
     loop-again
     returns)

@@ -21,9 +21,6 @@ Inv-loop level mask up₀ down₀ count n₀ up down n =
 abbrev μ-loop : tie.MeasureT-loop
 μ-loop level mask up₀ down₀ count n₀ up down n = count - n
 
-piece-count-requires : tie.Need-piece-count-requires Inv-loop μ-loop
-piece-count-requires c κs = search needs
-
 loop-holds : tie.Need-loop-holds Inv-loop μ-loop
 loop-holds c =
     let a = c .before .before .args in
@@ -37,12 +34,6 @@ put-piece-requires : tie.Need-put-piece-requires Inv-loop μ-loop
 put-piece-requires c κs =
     let t = c .before .before .before in
     (entry t .pre .0, omega (arith, t .before .piece-count .ensures), entry t .pre .1)
-
-add-n : tie.Need-add-n Inv-loop μ-loop
-add-n c = omega arith
-
-loop-less : tie.Need-loop-less Inv-loop μ-loop
-loop-less c = omega arith
 
 loop-again : tie.Need-loop-again Inv-loop μ-loop
 loop-again c =
@@ -73,10 +64,10 @@ put-pieces-spec =
     (tie.spec
     Inv-loop
     μ-loop
-    piece-count-requires
+    (λ c κs. search needs)
     loop-holds
     put-piece-requires
-    add-n
-    loop-less
+    (λ c. omega arith)
+    (λ c. omega arith)
     loop-again
     returns)

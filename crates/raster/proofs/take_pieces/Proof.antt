@@ -24,12 +24,6 @@ Inv-loop level up down mask₀ count n₀ mask n =
 abbrev μ-loop : tie.MeasureT-loop
 μ-loop level up down mask₀ count n₀ mask n = count - n
 
-clear-requires : tie.Need-clear-requires Inv-loop μ-loop
-clear-requires c κs = search needs
-
-piece-count-requires : tie.Need-piece-count-requires Inv-loop μ-loop
-piece-count-requires c κs = omega arith
-
 loop-holds : tie.Need-loop-holds Inv-loop μ-loop
 loop-holds c =
     let e = c .before .before .before .before .before .before in
@@ -53,12 +47,6 @@ take-piece-requires c κs =
       (entry t .pre .0, omega (arith, t .before .piece-count .ensures), l .inv .1),
       (λ x e. l .inv .3 x ∙ earlier-not (pieceSize (a .level)) (l .n) (cellLit (a .level) (a .up .now) (a .down .now)) x e),
     )
-
-add-n : tie.Need-add-n Inv-loop μ-loop
-add-n c = omega arith
-
-loop-less : tie.Need-loop-less Inv-loop μ-loop
-loop-less c = omega arith
 
 loop-again : tie.Need-loop-again Inv-loop μ-loop
 loop-again c =
@@ -90,12 +78,12 @@ take-pieces-spec =
     (tie.spec
     Inv-loop
     μ-loop
-    clear-requires
-    piece-count-requires
+    (λ c κs. search needs)
+    (λ c κs. omega arith)
     loop-holds
     take-piece-requires
-    add-n
-    loop-less
+    (λ c. omega arith)
+    (λ c. omega arith)
     loop-again
     same-length
     returns)

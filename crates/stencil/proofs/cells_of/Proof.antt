@@ -18,24 +18,6 @@ abbrev μ-loop : tie.MeasureT-loop
 loop-holds : tie.Need-loop-holds Inv-loop μ-loop
 loop-holds c = (omega arith, omega arith, written-none 10 _ (c .args .up .now), written-none 10 _ (c .args .down .now))
 
-up-word-requires : tie.Need-up-word-requires Inv-loop μ-loop
-up-word-requires c κs = omega arith
-
-put-requires : tie.Need-put-requires Inv-loop μ-loop
-put-requires c κs = omega arith
-
-down-word-requires : tie.Need-down-word-requires Inv-loop μ-loop
-down-word-requires c κs = omega arith
-
-put-requires-2 : tie.Need-put-requires-2 Inv-loop μ-loop
-put-requires-2 c κs = omega arith
-
-add-w : tie.Need-add-w Inv-loop μ-loop
-add-w c = omega arith
-
-loop-less : tie.Need-loop-less Inv-loop μ-loop
-loop-less c = omega arith
-
 loop-again : tie.Need-loop-again Inv-loop μ-loop
 loop-again c =
     let d = c .before .before .before in
@@ -59,11 +41,11 @@ cells-of-spec =
     Inv-loop
     μ-loop
     loop-holds
-    up-word-requires
-    put-requires
-    down-word-requires
-    put-requires-2
-    add-w
-    loop-less
+    (λ c κs. omega arith)
+    (λ c κs. omega arith)
+    (λ c κs. omega arith)
+    (λ c κs. omega arith)
+    (λ c. omega arith)
+    (λ c. omega arith)
     loop-again
     returns)

@@ -23,18 +23,6 @@ returns c i = rw (lt-leb (c .before .args .level) 8 (omega arith))
 loop-holds : tie.Need-loop-holds Inv-loop μ-loop
 loop-holds c = (omega arith, (λ h. absurd (omega arith)), written-none 0 _ (c .before .args .out .now))
 
-inside-word-requires : tie.Need-inside-word-requires Inv-loop μ-loop
-inside-word-requires c κs = omega arith
-
-put-requires : tie.Need-put-requires Inv-loop μ-loop
-put-requires c κs = omega arith
-
-add-w : tie.Need-add-w Inv-loop μ-loop
-add-w c = omega arith
-
-loop-less : tie.Need-loop-less Inv-loop μ-loop
-loop-less c = omega arith
-
 loop-again : tie.Need-loop-again Inv-loop μ-loop
 loop-again c =
     let l = c .before .before .before .before .loop in (
@@ -58,9 +46,9 @@ mark-inside-spec =
     μ-loop
     returns
     loop-holds
-    inside-word-requires
-    put-requires
-    add-w
-    loop-less
+    (λ c κs. omega arith)
+    (λ c κs. omega arith)
+    (λ c. omega arith)
+    (λ c. omega arith)
     loop-again
     returns-2)

@@ -32,12 +32,6 @@ returns c =
     let d = c .before .before .before .loop .code in
     simp (code-leads (a .level) n (placeOf (a .from)) d (s .pre .1) .1 (sym (c .before .joins .ensures) ∙ c .if1 .taken))
 
-add-code : tie.Need-add-code Inv-loop μ-loop
-add-code c = omega arith
-
-loop-less : tie.Need-loop-less Inv-loop μ-loop
-loop-less c = omega arith
-
 loop-again : tie.Need-loop-again Inv-loop μ-loop
 loop-again c = (omega arith, below-more _ _ (c .before .before .before .loop .inv .1) (sym (c .before .joins .ensures) ∙ c .if1 .left))
 
@@ -56,7 +50,7 @@ find-code-spec =
     loop-holds
     joins-requires
     returns
-    add-code
-    loop-less
+    (λ c. omega arith)
+    (λ c. omega arith)
     loop-again
     returns-2)

@@ -17,14 +17,8 @@ abbrev μ-loop : tie.MeasureT-loop
 loop-holds : tie.Need-loop-holds Inv-loop μ-loop
 loop-holds c = reading-none (c .args .bytes .now) (c .args .at)
 
-sub-loop : tie.Need-sub-loop Inv-loop μ-loop
-sub-loop c = omega arith
-
 returns : tie.Need-returns Inv-loop μ-loop
 returns c = reading-short _ _ _ _ _ (omega arith) (c .before .before .loop .inv) (omega arith)
-
-shared-slice-read-byte : tie.Need-shared-slice-read-byte Inv-loop μ-loop
-shared-slice-read-byte c = omega arith
 
 abbrev Byte : Type 0
 Byte = tie.After-shared-slice-known Inv-loop μ-loop
@@ -51,17 +45,11 @@ high c = added (c .before) (byte (c .before) - 128) (omega (arith, below-256 (c 
 cast-byte : tie.Need-cast-byte Inv-loop μ-loop
 cast-byte c = omega (arith, below-256 c)
 
-add-next : tie.Need-add-next Inv-loop μ-loop
-add-next c = omega arith
-
 mul-t11 : tie.Need-mul-t11 Inv-loop μ-loop
 mul-t11 c = omega (arith, units (c .before), low c)
 
 add-t12 : tie.Need-add-t12 Inv-loop μ-loop
 add-t12 c = omega (arith, units (c .before), low c)
-
-sub-t13 : tie.Need-sub-t13 Inv-loop μ-loop
-sub-t13 c = omega arith
 
 returns-2 : tie.Need-returns-2 Inv-loop μ-loop
 returns-2 c = reading-last _ _ _ _ _ (omega arith) (c .before .before .before .before .loop .inv) (omega arith) (omega arith)
@@ -74,9 +62,6 @@ add-value c = omega (arith, units (c .before), below-256 (c .before), high c)
 
 mul-unit : tie.Need-mul-unit Inv-loop μ-loop
 mul-unit c = omega (arith, units (c .before))
-
-loop-less : tie.Need-loop-less Inv-loop μ-loop
-loop-less c = omega arith
 
 loop-again : tie.Need-loop-again Inv-loop μ-loop
 loop-again c =
@@ -92,18 +77,18 @@ read-groups-spec =
     Inv-loop
     μ-loop
     loop-holds
-    sub-loop
+    (λ c. omega arith)
     returns
-    shared-slice-read-byte
+    (λ c. omega arith)
     cast-byte
-    add-next
+    (λ c. omega arith)
     mul-t11
     add-t12
-    sub-t13
+    (λ c. omega arith)
     returns-2
     mul-value
     add-value
     mul-unit
-    loop-less
+    (λ c. omega arith)
     loop-again
     returns-3)

@@ -23,20 +23,8 @@ loop-holds c =
     let e : c .args .at - c .args .at ≡ 0 = omega arith in
     (omega arith, refl, rw e (taken-none (c .args .n) (omega arith)), rw e)
 
-add-out : tie.Need-add-out Inv-loop μ-loop
-add-out c = omega arith
-
-cast-out : tie.Need-cast-out Inv-loop μ-loop
-cast-out c = omega arith
-
 slice-write-out : tie.Need-slice-write-out Inv-loop μ-loop
 slice-write-out c = omega (arith, taken-some _ _ _ (c .before .loop .inv .2))
-
-add-place : tie.Need-add-place Inv-loop μ-loop
-add-place c = omega arith
-
-loop-less : tie.Need-loop-less Inv-loop μ-loop
-loop-less c = omega arith
 
 loop-again : tie.Need-loop-again Inv-loop μ-loop
 loop-again c =
@@ -48,9 +36,6 @@ loop-again c =
       taken-more _ _ _ _ (omega arith) e (l .inv .2),
       l .inv .3 ∙ put-more _ _ _ _ _ (omega arith) e (l .inv .2 .few),
     )
-
-cast-out-2 : tie.Need-cast-out-2 Inv-loop μ-loop
-cast-out-2 c = omega arith
 
 slice-write-out-2 : tie.Need-slice-write-out-2 Inv-loop μ-loop
 slice-write-out-2 c = omega (arith, taken-some _ _ _ (c .before .loop .inv .2))
@@ -68,13 +53,13 @@ write-groups-spec =
     Inv-loop
     μ-loop
     loop-holds
-    add-out
-    cast-out
+    (λ c. omega arith)
+    (λ c. omega arith)
     slice-write-out
-    add-place
-    loop-less
+    (λ c. omega arith)
+    (λ c. omega arith)
     loop-again
-    cast-out-2
+    (λ c. omega arith)
     slice-write-out-2
     same-length
     returns)

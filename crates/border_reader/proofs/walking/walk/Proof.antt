@@ -25,22 +25,10 @@ Inv-loop level start codes count met₀ cell₀ i₀ met cell i =
 abbrev μ-loop : tie.MeasureT-loop
 μ-loop level start codes count met₀ cell₀ i₀ met cell i = count - i
 
-slice-write-met : tie.Need-slice-write-met Inv-loop μ-loop
-slice-write-met c = omega arith
-
 loop-holds : tie.Need-loop-holds Inv-loop μ-loop
 loop-holds c =
     let a = c .before .before .args in
     (omega arith, rw length-set (c .before .before .pre .1), refl, walk-begins _ _ _ _ (getD-set-same (a .met .now) 0 (a .start) 0 (omega arith)))
-
-code-at-requires : tie.Need-code-at-requires Inv-loop μ-loop
-code-at-requires c κs = search needs
-
-step-along-requires : tie.Need-step-along-requires Inv-loop μ-loop
-step-along-requires c κs = search needs
-
-enum-told : tie.Need-enum-told Inv-loop μ-loop
-enum-told c = search needs
 
 same-length : tie.Need-same-length Inv-loop μ-loop
 same-length c = c .before .before .before .before .before .loop .inv .2 ∙ simp length-set
@@ -69,21 +57,6 @@ returns c =
     let l = c .before .before .before .before .before .loop in
     let none = walk-stops _ _ _ _ _ _ _ (l .inv .3) (next-code (c .before .before)) _ (stepped (c .before .before) ∙ ap saidStep (c .enum-told .given .1)) in
     (sym (ap found none), λ t. absurd (false≢true t))
-
-enum-known-next : tie.Need-enum-known-next Inv-loop μ-loop
-enum-known-next c = search needs
-
-add-i : tie.Need-add-i Inv-loop μ-loop
-add-i c = omega arith
-
-mul-met : tie.Need-mul-met Inv-loop μ-loop
-mul-met c = search needs
-
-slice-write-met-2 : tie.Need-slice-write-met-2 Inv-loop μ-loop
-slice-write-met-2 c = omega arith
-
-loop-less : tie.Need-loop-less Inv-loop μ-loop
-loop-less c = omega arith
 
 loop-again : tie.Need-loop-again Inv-loop μ-loop
 loop-again c =
@@ -114,18 +87,18 @@ walk-spec =
     (tie.spec
     Inv-loop
     μ-loop
-    slice-write-met
+    (λ c. omega arith)
     loop-holds
-    code-at-requires
-    step-along-requires
-    enum-told
+    (λ c κs. search needs)
+    (λ c κs. search needs)
+    (λ c. search needs)
     same-length
     returns
-    enum-known-next
-    add-i
-    mul-met
-    slice-write-met-2
-    loop-less
+    (λ c. search needs)
+    (λ c. omega arith)
+    (λ c. search needs)
+    (λ c. omega arith)
+    (λ c. omega arith)
     loop-again
     same-length-2
     returns-2)

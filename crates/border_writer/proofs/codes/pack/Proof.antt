@@ -18,9 +18,6 @@ abbrev μ-loop : tie.MeasureT-loop
 loop-holds : tie.Need-loop-holds Inv-loop μ-loop
 loop-holds c = packing-none (c .args .codes .now) (c .args .out .now) (c .args .at)
 
-shared-slice-read-held : tie.Need-shared-slice-read-held Inv-loop μ-loop
-shared-slice-read-held c = omega arith
-
 -- the code that is put
 code : (c : tie.After-shared-slice-known Inv-loop μ-loop) → getD (c .before .before .before .args .codes .now) (c .before .before .loop .i) 0 < 8
 code c = c .before .before .before .pre .0 (c .before .before .loop .i)
@@ -28,29 +25,8 @@ code c = c .before .before .before .pre .0 (c .before .before .loop .i)
 cast-held : tie.Need-cast-held Inv-loop μ-loop
 cast-held c = omega (arith, code c)
 
-shl-held : tie.Need-shl-held Inv-loop μ-loop
-shl-held c = omega arith
-
 add-held : tie.Need-add-held Inv-loop μ-loop
 add-held c = omega (arith, code c, packing-held _ _ _ _ _ _ _ _ (c .before .before .loop .inv), packing-shift _ _ _ _ _ _ _ _ (c .before .before .loop .inv) _ (code c))
-
-add-bits : tie.Need-add-bits Inv-loop μ-loop
-add-bits c = omega arith
-
-cast-out : tie.Need-cast-out Inv-loop μ-loop
-cast-out c = omega arith
-
-slice-write-out : tie.Need-slice-write-out Inv-loop μ-loop
-slice-write-out c = omega arith
-
-add-place : tie.Need-add-place Inv-loop μ-loop
-add-place c = omega arith
-
-add-i : tie.Need-add-i Inv-loop μ-loop
-add-i c = omega arith
-
-loop-less : tie.Need-loop-less Inv-loop μ-loop
-loop-less c = omega arith
 
 loop-again : tie.Need-loop-again Inv-loop μ-loop
 loop-again c =
@@ -69,17 +45,11 @@ loop-again c =
 cast-out-2 : tie.Need-cast-out-2 Inv-loop μ-loop
 cast-out-2 c = omega (arith, packing-held _ _ _ _ _ _ _ _ (c .before .before .loop .inv))
 
-slice-write-out-2 : tie.Need-slice-write-out-2 Inv-loop μ-loop
-slice-write-out-2 c = omega arith
-
 same-length : tie.Need-same-length Inv-loop μ-loop
 same-length c = simp length-set (c .before .before .loop .inv .same)
 
 returns : tie.Need-returns Inv-loop μ-loop
 returns c = sym (packing-last _ _ _ _ _ _ _ _ (c .before .before .loop .inv) (omega arith) (omega arith))
-
-same-length-2 : tie.Need-same-length-2 Inv-loop μ-loop
-same-length-2 c = omega arith
 
 returns-2 : tie.Need-returns-2 Inv-loop μ-loop
 returns-2 c = sym (packing-done _ _ _ _ _ _ _ _ (c .before .before .loop .inv) (omega arith) (omega arith))
@@ -91,20 +61,20 @@ pack-spec =
     Inv-loop
     μ-loop
     loop-holds
-    shared-slice-read-held
+    (λ c. omega arith)
     cast-held
-    shl-held
+    (λ c. omega arith)
     add-held
-    add-bits
-    cast-out
-    slice-write-out
-    add-place
-    add-i
-    loop-less
+    (λ c. omega arith)
+    (λ c. omega arith)
+    (λ c. omega arith)
+    (λ c. omega arith)
+    (λ c. omega arith)
+    (λ c. omega arith)
     loop-again
     cast-out-2
-    slice-write-out-2
+    (λ c. omega arith)
     same-length
     returns
-    same-length-2
+    (λ c. omega arith)
     returns-2)

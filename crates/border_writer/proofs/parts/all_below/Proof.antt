@@ -21,27 +21,12 @@ abbrev μ-loop : tie.MeasureT-loop
 loop-holds : tie.Need-loop-holds Inv-loop μ-loop
 loop-holds c = (omega arith, refl)
 
-mul-is-cell : tie.Need-mul-is-cell Inv-loop μ-loop
-mul-is-cell c = search needs
-
-shared-slice-read-is-cell : tie.Need-shared-slice-read-is-cell Inv-loop μ-loop
-shared-slice-read-is-cell c = search needs
-
-is-cell-requires : tie.Need-is-cell-requires Inv-loop μ-loop
-is-cell-requires c κs = search needs
-
 returns : tie.Need-returns Inv-loop μ-loop
 returns c =
     let l = c .before .before .before .before .loop in
     let a = c .before .before .before .before .before .before .args in
     let past = no-cell _ (a .level) _ (c .before .is-cell .ensures) (c .if1 .taken) in
     sym (ap not (l .inv .1 ∙ one-above (cellsOfLevel (a .level)) (a .cells .now) (l .i) (omega arith) past))
-
-add-i : tie.Need-add-i Inv-loop μ-loop
-add-i c = search needs
-
-loop-less : tie.Need-loop-less Inv-loop μ-loop
-loop-less c = omega arith
 
 loop-again : tie.Need-loop-again Inv-loop μ-loop
 loop-again c =
@@ -64,11 +49,11 @@ all-below-spec =
     Inv-loop
     μ-loop
     loop-holds
-    mul-is-cell
-    shared-slice-read-is-cell
-    is-cell-requires
+    (λ c. search needs)
+    (λ c. search needs)
+    (λ c κs. search needs)
     returns
-    add-i
-    loop-less
+    (λ c. search needs)
+    (λ c. omega arith)
     loop-again
     returns-2)

@@ -23,30 +23,6 @@ abbrev μ-loop : tie.MeasureT-loop
 loop-holds : tie.Need-loop-holds Inv-loop μ-loop
 loop-holds c = (omega arith, refl, none-joined _ _ _)
 
-add-loop : tie.Need-add-loop Inv-loop μ-loop
-add-loop c = search needs
-
-mul-code-between : tie.Need-mul-code-between Inv-loop μ-loop
-mul-code-between c = search needs
-
-shared-slice-read-code-between : tie.Need-shared-slice-read-code-between Inv-loop μ-loop
-shared-slice-read-code-between c = search needs
-
-add-code-between : tie.Need-add-code-between Inv-loop μ-loop
-add-code-between c = search needs
-
-mul-code-between-2 : tie.Need-mul-code-between-2 Inv-loop μ-loop
-mul-code-between-2 c = search needs
-
-shared-slice-read-code-between-2 : tie.Need-shared-slice-read-code-between-2 Inv-loop μ-loop
-shared-slice-read-code-between-2 c = search needs
-
-code-between-requires : tie.Need-code-between-requires Inv-loop μ-loop
-code-between-requires c κs = search needs
-
-enum-told : tie.Need-enum-told Inv-loop μ-loop
-enum-told c = search needs
-
 same-length : tie.Need-same-length Inv-loop μ-loop
 same-length c = c .before .before .before .before .before .before .loop .inv .1
 
@@ -62,18 +38,6 @@ returns c =
     let l = c .before .before .before .before .before .before .loop in
     let none = not-joined _ _ _ _ (l .inv .2) (omega arith) _ (told (c .before .before) ∙ ap saidCode (c .enum-told .given .1)) in
     (sym (ap found none), λ t. absurd (false≢true t))
-
-enum-known-code : tie.Need-enum-known-code Inv-loop μ-loop
-enum-known-code c = search needs
-
-slice-write-codes : tie.Need-slice-write-codes Inv-loop μ-loop
-slice-write-codes c = omega arith
-
-add-i : tie.Need-add-i Inv-loop μ-loop
-add-i c = search needs
-
-loop-less : tie.Need-loop-less Inv-loop μ-loop
-loop-less c = omega arith
 
 loop-again : tie.Need-loop-again Inv-loop μ-loop
 loop-again c =
@@ -102,20 +66,20 @@ find-codes-spec =
     Inv-loop
     μ-loop
     loop-holds
-    add-loop
-    mul-code-between
-    shared-slice-read-code-between
-    add-code-between
-    mul-code-between-2
-    shared-slice-read-code-between-2
-    code-between-requires
-    enum-told
+    (λ c. search needs)
+    (λ c. search needs)
+    (λ c. search needs)
+    (λ c. search needs)
+    (λ c. search needs)
+    (λ c. search needs)
+    (λ c κs. search needs)
+    (λ c. search needs)
     same-length
     returns
-    enum-known-code
-    slice-write-codes
-    add-i
-    loop-less
+    (λ c. search needs)
+    (λ c. omega arith)
+    (λ c. search needs)
+    (λ c. omega arith)
     loop-again
     same-length-2
     returns-2)

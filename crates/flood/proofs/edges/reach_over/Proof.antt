@@ -24,12 +24,6 @@ loop-holds c =
 reach-octant-requires : tie.Need-reach-octant-requires Inv-loop μ-loop
 reach-octant-requires c κs = (c .before .before .before .pre, omega arith)
 
-add-octant : tie.Need-add-octant Inv-loop μ-loop
-add-octant c = omega arith
-
-loop-less : tie.Need-loop-less Inv-loop μ-loop
-loop-less c = omega arith
-
 loop-again : tie.Need-loop-again Inv-loop μ-loop
 loop-again c =
     let t = c .before .before in
@@ -52,7 +46,7 @@ reach-over-spec =
     μ-loop
     loop-holds
     reach-octant-requires
-    add-octant
-    loop-less
+    (λ c. omega arith)
+    (λ c. omega arith)
     loop-again
     returns)

@@ -20,15 +20,6 @@ abbrev μ-loop : tie.MeasureT-loop
 loop-holds : tie.Need-loop-holds Inv-loop μ-loop
 loop-holds c = (omega arith, omega arith, turn-none (λ s t i j m l o. absurd (omega (arith, m .1, m .2))))
 
-settle-word-requires : tie.Need-settle-word-requires Inv-loop μ-loop
-settle-word-requires c κs = omega arith
-
-add-at : tie.Need-add-at Inv-loop μ-loop
-add-at c = omega arith
-
-loop-less : tie.Need-loop-less Inv-loop μ-loop
-loop-less c = omega arith
-
 loop-again : tie.Need-loop-again Inv-loop μ-loop
 loop-again c =
     let l = c .before .before .before .before .loop in
@@ -43,4 +34,4 @@ returns c =
 pub go-forward-spec : {M : Type 1} → statement M
 go-forward-spec =
     tie.close
-    (tie.spec Inv-loop μ-loop loop-holds settle-word-requires add-at loop-less loop-again returns)
+    (tie.spec Inv-loop μ-loop loop-holds (λ c κs. omega arith) (λ c. omega arith) (λ c. omega arith) loop-again returns)

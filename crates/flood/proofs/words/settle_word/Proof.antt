@@ -19,18 +19,6 @@ Inv-loop at open-up open-down up₀ down₀ n₀ up down n = (n ≤ 64) × Added
 abbrev μ-loop : tie.MeasureT-loop
 μ-loop at open-up open-down up₀ down₀ n₀ up down n = 64 - n
 
-word-requires : tie.Need-word-requires Inv-loop μ-loop
-word-requires c κs = search needs
-
-word-requires-2 : tie.Need-word-requires-2 Inv-loop μ-loop
-word-requires-2 c κs = search needs
-
-word-requires-3 : tie.Need-word-requires-3 Inv-loop μ-loop
-word-requires-3 c κs = search needs
-
-word-requires-4 : tie.Need-word-requires-4 Inv-loop μ-loop
-word-requires-4 c κs = search needs
-
 returns : tie.Need-returns Inv-loop μ-loop
 returns c =
     let y = c .before in
@@ -42,9 +30,6 @@ returns c =
     turn-none (full-closed (a .at) (a .open-up .now) (a .open-down .now) (a .up .now) (a .down .now)
     (sym (r .word .ensures) ∙ t .if1 .taken ∙ s .word2 .ensures)
     (sym (x .word3 .ensures) ∙ c .if2 .taken ∙ y .word4 .ensures))
-
-reach-word-requires : tie.Need-reach-word-requires Inv-loop μ-loop
-reach-word-requires c κs = search needs
 
 returns-2 : tie.Need-returns-2 Inv-loop μ-loop
 returns-2 c = rw (not-true (c .before .reach-word .result) (c .if3 .taken)) at (c .before .reach-word .ensures)
@@ -62,20 +47,11 @@ changed e = rw (not-false (e .before .reach-word .result) (e .if3 .left)) at (e 
 loop-holds : tie.Need-loop-holds Inv-loop μ-loop
 loop-holds c = (omega arith, added-none)
 
-reach-word-requires-2 : tie.Need-reach-word-requires-2 Inv-loop μ-loop
-reach-word-requires-2 c κs = search needs
-
 returns-3 : tie.Need-returns-3 Inv-loop μ-loop
 returns-3 c =
     let r = c .before in
     let l = r .before .before .before .before in
     turn-more (changed (l .before)) (added-more (l .loop .inv .1) (r .reach-word2 .ensures .added))
-
-add-n : tie.Need-add-n Inv-loop μ-loop
-add-n c = search needs
-
-loop-less : tie.Need-loop-less Inv-loop μ-loop
-loop-less c = search needs
 
 loop-again : tie.Need-loop-again Inv-loop μ-loop
 loop-again c =
@@ -91,17 +67,17 @@ settle-word-spec =
     (tie.spec
     Inv-loop
     μ-loop
-    word-requires
-    word-requires-2
-    word-requires-3
-    word-requires-4
+    (λ c κs. search needs)
+    (λ c κs. search needs)
+    (λ c κs. search needs)
+    (λ c κs. search needs)
     returns
-    reach-word-requires
+    (λ c κs. search needs)
     returns-2
     loop-holds
-    reach-word-requires-2
+    (λ c κs. search needs)
     returns-3
-    add-n
-    loop-less
+    (λ c. search needs)
+    (λ c. search needs)
     loop-again
     returns-4)

@@ -13,32 +13,8 @@ Inv-loop mask₀ block word first i₀ mask i = (i ≤ 8) × (length mask ≡ le
 abbrev μ-loop : tie.MeasureT-loop
 μ-loop mask₀ block word first i₀ mask i = 8 - i
 
-mul-first : tie.Need-mul-first Inv-loop μ-loop
-mul-first c = omega arith
-
 loop-holds : tie.Need-loop-holds Inv-loop μ-loop
 loop-holds c = let a = c .args in (omega arith, refl, stored-none (a .block) (a .word) (a .mask .now))
-
-mul-mask : tie.Need-mul-mask Inv-loop μ-loop
-mul-mask c = omega arith
-
-shr-mask : tie.Need-shr-mask Inv-loop μ-loop
-shr-mask c = omega arith
-
-cast-mask : tie.Need-cast-mask Inv-loop μ-loop
-cast-mask c = omega arith
-
-add-mask : tie.Need-add-mask Inv-loop μ-loop
-add-mask c = omega arith
-
-slice-write-mask : tie.Need-slice-write-mask Inv-loop μ-loop
-slice-write-mask c = omega arith
-
-add-i : tie.Need-add-i Inv-loop μ-loop
-add-i c = omega arith
-
-loop-less : tie.Need-loop-less Inv-loop μ-loop
-loop-less c = omega arith
 
 loop-again : tie.Need-loop-again Inv-loop μ-loop
 loop-again c =
@@ -65,15 +41,15 @@ store-word-spec =
     (tie.spec
     Inv-loop
     μ-loop
-    mul-first
+    (λ c. omega arith)
     loop-holds
-    mul-mask
-    shr-mask
-    cast-mask
-    add-mask
-    slice-write-mask
-    add-i
-    loop-less
+    (λ c. omega arith)
+    (λ c. omega arith)
+    (λ c. omega arith)
+    (λ c. omega arith)
+    (λ c. omega arith)
+    (λ c. omega arith)
+    (λ c. omega arith)
     loop-again
     same-length
     returns)

@@ -16,9 +16,6 @@ Inv-loop mask block first word₀ i₀ word i = (i ≤ 8) × Bits i (λ p. marke
 abbrev μ-loop : tie.MeasureT-loop
 μ-loop mask block first word₀ i₀ word i = 8 - i
 
-mul-first : tie.Need-mul-first Inv-loop μ-loop
-mul-first c = omega arith
-
 loop-holds : tie.Need-loop-holds Inv-loop μ-loop
 loop-holds c = let a = c .args in (omega arith, bits-none (λ p. marked (a .mask .now) (64 * a .block + p)))
 
@@ -32,26 +29,8 @@ byte t = getD (entry t .args .mask .now) (8 * entry t .args .block + t .loop .i)
 small : (c : tie.After-shared-slice-known Inv-loop μ-loop) → byte (c .before .before) < 256
 small c = c .shared-slice-known .given _ .fits
 
-add-word : tie.Need-add-word Inv-loop μ-loop
-add-word c = omega arith
-
-shared-slice-read-word : tie.Need-shared-slice-read-word Inv-loop μ-loop
-shared-slice-read-word c = omega arith
-
 cast-word : tie.Need-cast-word Inv-loop μ-loop
 cast-word c = omega (arith, small c)
-
-mul-word : tie.Need-mul-word Inv-loop μ-loop
-mul-word c = omega arith
-
-shl-word : tie.Need-shl-word Inv-loop μ-loop
-shl-word c = omega arith
-
-add-i : tie.Need-add-i Inv-loop μ-loop
-add-i c = omega arith
-
-loop-less : tie.Need-loop-less Inv-loop μ-loop
-loop-less c = omega arith
 
 loop-again : tie.Need-loop-again Inv-loop μ-loop
 loop-again c =
@@ -76,14 +55,14 @@ word-at-spec =
     (tie.spec
     Inv-loop
     μ-loop
-    mul-first
+    (λ c. omega arith)
     loop-holds
-    add-word
-    shared-slice-read-word
+    (λ c. omega arith)
+    (λ c. omega arith)
     cast-word
-    mul-word
-    shl-word
-    add-i
-    loop-less
+    (λ c. omega arith)
+    (λ c. omega arith)
+    (λ c. omega arith)
+    (λ c. omega arith)
     loop-again
     returns)

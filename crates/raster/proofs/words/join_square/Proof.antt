@@ -25,29 +25,8 @@ loop-holds c =
 abbrev entry : tie.At-loop Inv-loop μ-loop → tie.Start Inv-loop μ-loop
 entry t = t .before .before
 
-mul-join-byte : tie.Need-mul-join-byte Inv-loop μ-loop
-mul-join-byte c = omega arith
-
-add-join-byte : tie.Need-add-join-byte Inv-loop μ-loop
-add-join-byte c = omega arith
-
-mul-join-byte-2 : tie.Need-mul-join-byte-2 Inv-loop μ-loop
-mul-join-byte-2 c = omega arith
-
-cast-join-byte : tie.Need-cast-join-byte Inv-loop μ-loop
-cast-join-byte c = omega arith
-
-shr-join-byte : tie.Need-shr-join-byte Inv-loop μ-loop
-shr-join-byte c = omega arith
-
 join-byte-requires : tie.Need-join-byte-requires Inv-loop μ-loop
 join-byte-requires c κs = (omega (arith, entry (c .before .before) .pre .0), omega arith)
-
-add-x : tie.Need-add-x Inv-loop μ-loop
-add-x c = omega arith
-
-loop-less : tie.Need-loop-less Inv-loop μ-loop
-loop-less c = omega arith
 
 loop-again : tie.Need-loop-again Inv-loop μ-loop
 loop-again c =
@@ -77,14 +56,14 @@ join-square-spec =
     Inv-loop
     μ-loop
     loop-holds
-    mul-join-byte
-    add-join-byte
-    mul-join-byte-2
-    cast-join-byte
-    shr-join-byte
+    (λ c. omega arith)
+    (λ c. omega arith)
+    (λ c. omega arith)
+    (λ c. omega arith)
+    (λ c. omega arith)
     join-byte-requires
-    add-x
-    loop-less
+    (λ c. omega arith)
+    (λ c. omega arith)
     loop-again
     same-length
     returns)

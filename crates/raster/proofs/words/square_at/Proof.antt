@@ -18,30 +18,6 @@ abbrev μ-loop : tie.MeasureT-loop
 loop-holds : tie.Need-loop-holds Inv-loop μ-loop
 loop-holds c = let a = c .args in (omega arith, bits-none (λ p. lit (a .words .now) (8 * (a .slot + 40 * (p / 8)) + p % 8)))
 
-mul-byte-at : tie.Need-mul-byte-at Inv-loop μ-loop
-mul-byte-at c = omega arith
-
-add-byte-at : tie.Need-add-byte-at Inv-loop μ-loop
-add-byte-at c = omega arith
-
-byte-at-requires : tie.Need-byte-at-requires Inv-loop μ-loop
-byte-at-requires c κs = omega arith
-
-mul-square : tie.Need-mul-square Inv-loop μ-loop
-mul-square c = omega arith
-
-cast-square : tie.Need-cast-square Inv-loop μ-loop
-cast-square c = omega arith
-
-shl-square : tie.Need-shl-square Inv-loop μ-loop
-shl-square c = omega arith
-
-add-x : tie.Need-add-x Inv-loop μ-loop
-add-x c = omega arith
-
-loop-less : tie.Need-loop-less Inv-loop μ-loop
-loop-less c = omega arith
-
 loop-again : tie.Need-loop-again Inv-loop μ-loop
 loop-again c =
     let t = c .before .before in
@@ -67,13 +43,13 @@ square-at-spec =
     Inv-loop
     μ-loop
     loop-holds
-    mul-byte-at
-    add-byte-at
-    byte-at-requires
-    mul-square
-    cast-square
-    shl-square
-    add-x
-    loop-less
+    (λ c. omega arith)
+    (λ c. omega arith)
+    (λ c κs. omega arith)
+    (λ c. omega arith)
+    (λ c. omega arith)
+    (λ c. omega arith)
+    (λ c. omega arith)
+    (λ c. omega arith)
     loop-again
     returns)

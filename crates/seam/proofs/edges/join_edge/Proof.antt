@@ -15,21 +15,9 @@ Inv-loop edge size points₀ count pair₀ points pair = (pair ≤ count) × (li
 abbrev μ-loop : tie.MeasureT-loop
 μ-loop edge size points₀ count pair₀ points pair = count - pair
 
-count-of-requires : tie.Need-count-of-requires Inv-loop μ-loop
-count-of-requires c κs = search needs
-
 loop-holds : tie.Need-loop-holds Inv-loop μ-loop
 unfolding joinPairs
 loop-holds c = (omega arith, refl)
-
-join-one-requires : tie.Need-join-one-requires Inv-loop μ-loop
-join-one-requires c κs = omega arith
-
-add-pair : tie.Need-add-pair Inv-loop μ-loop
-add-pair c = omega arith
-
-loop-less : tie.Need-loop-less Inv-loop μ-loop
-loop-less c = omega arith
 
 loop-again : tie.Need-loop-again Inv-loop μ-loop
 unfolding joinPairs
@@ -50,10 +38,10 @@ join-edge-spec =
     (tie.spec
     Inv-loop
     μ-loop
-    count-of-requires
+    (λ c κs. search needs)
     loop-holds
-    join-one-requires
-    add-pair
-    loop-less
+    (λ c κs. omega arith)
+    (λ c. omega arith)
+    (λ c. omega arith)
     loop-again
     returns)

@@ -23,18 +23,6 @@ loop-holds c = (omega arith, refl, λ j h. absurd (omega arith))
 cell-at-requires : tie.Need-cell-at-requires Inv-loop μ-loop
 cell-at-requires c κs = let h = c .before .before .before .pre in (h .0, h .1, h .2, omega arith)
 
-mul-found : tie.Need-mul-found Inv-loop μ-loop
-mul-found c = omega arith
-
-slice-write-found : tie.Need-slice-write-found Inv-loop μ-loop
-slice-write-found c = omega arith
-
-add-i : tie.Need-add-i Inv-loop μ-loop
-add-i c = omega arith
-
-loop-less : tie.Need-loop-less Inv-loop μ-loop
-loop-less c = omega arith
-
 loop-again : tie.Need-loop-again Inv-loop μ-loop
 loop-again c =
     let l = c .before .before .loop in
@@ -61,10 +49,10 @@ fill-spec =
     μ-loop
     loop-holds
     cell-at-requires
-    mul-found
-    slice-write-found
-    add-i
-    loop-less
+    (λ c. omega arith)
+    (λ c. omega arith)
+    (λ c. omega arith)
+    (λ c. omega arith)
     loop-again
     same-length
     returns)
