@@ -5,6 +5,8 @@ use crate::charts;
 use crate::digits;
 use crate::lists;
 use crate::masks;
+use crate::out;
+use crate::out::Answer;
 use crate::out::LENGTH;
 use crate::out::Style;
 use crate::shapes;
@@ -19,105 +21,46 @@ fn signed(kind: u8, number: u32) -> i32 {
     if kind == b'-' { 0 - size } else { size }
 }
 
-// Cells by number and place.
-fn cell_call(out: &mut [u8; LENGTH], call: usize, style: Style, values: &[u32; WORDS]) -> usize {
-    match call {
-        0 => cells::place(out, style.level, values[1]),
-        1 => cells::number(out, style, values[1], values[2], values[3], values[4]),
-        2 => cells::centroid(out, style.level, values[1]),
-        _ => cells::centre(out, style.level, values[1]),
-    }
-}
-
-fn position_call(
-    out: &mut [u8; LENGTH],
-    call: usize,
-    style: Style,
-    kinds: &[u8],
-    values: &[u32; WORDS],
-) -> usize {
+// The calls on a position.
+fn position_call(call: usize, level: u32, kinds: &[u8], values: &[u32; WORDS]) -> Answer {
     if kinds.len() < 4 {
-        return 0;
+        return Answer(out::NONE, 0, 0, 0);
     }
     let latitude = signed(kinds[1], values[1]);
     let longitude = signed(kinds[2], values[2]);
     if call == 3 {
-        return cells::cell(out, style, latitude, longitude);
+        return cells::cell(level, latitude, longitude);
     }
     cells::near(
-        out,
-        style.level,
+        level,
         latitude,
         longitude,
         lists::cells_in(values, 3, kinds.len() - 1),
     )
 }
 
+// The calls whose answers are of one form.
+fn short_call(call: usize, level: u32, kinds: &[u8], values: &[u32; WORDS]) -> Answer {
+    match call {
+        0 => cells::place(level, values[1]),
+        1 => cells::number(level, values[1], values[2], values[3], values[4]),
+        2 => cells::centroid(level, values[1]),
+        4 => cells::centre(level, values[1]),
+        6 => steps::step(level, values[1], lists::low_byte(values[2])),
+        7 => steps::code(level, values[1], values[2]),
+        10 => steps::touch(level, values[1], values[2]),
+        12 => tally::tally(level, values[1]),
+        13 => digits::rule(level, lists::low_byte(values[1])),
+        14 => digits::distance(level),
+        15 => masks::mask(level, values[1]),
+        23 => charts::reading(level, kinds, values),
+        _ => position_call(call, level, kinds, values),
+    }
+}
+
 // The length of the slice that touching cells are put into: 12 where the case does not say.
 fn room_of(words: usize, given: u32) -> usize {
     if words < 3 { 12 } else { given as usize }
-}
-
-fn step_call(
-    out: &mut [u8; LENGTH],
-    call: usize,
-    style: Style,
-    words: usize,
-    values: &[u32; WORDS],
-) -> usize {
-    match call {
-        6 => steps::step(out, style, values[1], lists::low_byte(values[2])),
-        7 => steps::code(out, style.level, values[1], values[2]),
-        8 => steps::codes(out, style.level, lists::cells_in(values, 1, words)),
-        9 => steps::path(out, style, values[1], lists::cells_in(values, 2, words)),
-        10 => steps::touch(out, style.level, values[1], values[2]),
-        _ => steps::touching(out, style, values[1], room_of(words, values[2])),
-    }
-}
-
-// What the sources say of all cells of a level, and the length of masks.
-fn level_call(out: &mut [u8; LENGTH], call: usize, level: u32, value: u32) -> usize {
-    match call {
-        12 => tally::tally(out, level, value),
-        13 => digits::rule(out, level, lists::low_byte(value)),
-        14 => digits::distance(out, level),
-        _ => masks::mask(out, level, value),
-    }
-}
-
-fn mask_call(
-    out: &mut [u8; LENGTH],
-    call: usize,
-    style: Style,
-    kinds: &[u8],
-    values: &[u32; WORDS],
-) -> usize {
-    let part = lists::part_at(kinds, 2);
-    match call {
-        16 => masks::count(out, style.level, lists::part_at(kinds, 1), values),
-        17 => masks::spread(out, style, true, part, values),
-        18 => masks::spread(out, style, false, part, values),
-        19 => masks::pair(out, style, true, kinds, values),
-        20 => masks::pair(out, style, false, kinds, values),
-        21 => masks::fill(out, style, false, part, values),
-        _ => masks::fill(out, style, true, part, values),
-    }
-}
-
-fn list_call(
-    out: &mut [u8; LENGTH],
-    call: usize,
-    style: Style,
-    kinds: &[u8],
-    words: usize,
-    values: &[u32; WORDS],
-) -> usize {
-    match call {
-        23 => charts::reading(out, style.level, kinds, values),
-        24 => charts::day(out, kinds, values),
-        25 => borders::read(out, style, values[0], lists::cells_in(values, 1, words)),
-        _ => borders::write(out, values[0], values[1], lists::cells_in(values, 2, words)),
-    }
 }
 
 // Makes a call by its row in the table of names.
@@ -133,12 +76,14 @@ fn make(
     }
     let words = kinds.len() - 1;
     match call {
-        3 | 5 => position_call(out, call, style, kinds, values),
-        0..=5 => cell_call(out, call, style, values),
-        6..=11 => step_call(out, call, style, words, values),
-        12..=15 => level_call(out, call, style.level, values[1]),
-        16..=22 => mask_call(out, call, style, kinds, values),
-        _ => list_call(out, call, style, kinds, words, values),
+        8 => steps::codes(out, style, lists::cells_in(values, 1, words)),
+        9 => steps::path(out, style, values[1], lists::cells_in(values, 2, words)),
+        11 => steps::touching(out, style, values[1], room_of(words, values[2])),
+        16..=22 => masks::run(out, call, style, kinds, values),
+        24 => charts::day(out, style, kinds, values),
+        25 => borders::read(out, style, values[0], lists::cells_in(values, 1, words)),
+        26 => borders::write(out, values[0], values[1], lists::cells_in(values, 2, words)),
+        _ => out::put(out, 0, style, short_call(call, style.level, kinds, values)),
     }
 }
 

@@ -1,6 +1,7 @@
 // Stored borders.
 use crate::lists;
 use crate::out;
+use crate::out::Answer;
 use crate::out::LENGTH;
 use crate::out::Style;
 use crate::words::WORDS;
@@ -14,7 +15,7 @@ const CELLS: usize = 4098;
 const BYTES: usize = 1545;
 
 fn put_border(out: &mut [u8; LENGTH], style: Style, level: u32, cells: &[u32]) -> usize {
-    let next = out::form(out, 0, b"level %:", &[level]);
+    let next = out::put(out, 0, style, Answer(out::LEVEL, level, 0, 0));
     out::cells(
         out,
         next,

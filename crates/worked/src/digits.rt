@@ -1,6 +1,6 @@
 // The digit rules of source 000 (section 2) and source 003 (section 5), run against the steps, and the average of source 003, section 6.
 use crate::out;
-use crate::out::LENGTH;
+use crate::out::Answer;
 use step::StepAnswer;
 
 // For each code and each digit what the rule makes of it: a digit, with 4 added where the rule goes on to the digit before, or 8 where there is no
@@ -116,12 +116,12 @@ fn run_rule(level: u32, code: u8) -> u32 {
 }
 
 // The rule of a code against its step, at a level up to 4.
-pub fn rule(out: &mut [u8; LENGTH], level: u32, code: u8) -> usize {
+pub fn rule(level: u32, code: u8) -> Answer {
     if 4 < level {
-        return 0;
+        return Answer(out::NONE, 0, 0, 0);
     }
     let cells = 8 << (2 * (level % 5));
-    out::form(out, 0, b"% of %", &[run_rule(level, code), cells])
+    Answer(out::PART, run_rule(level, code), cells, 0)
 }
 
 // Differences of cell numbers: their sum and how many they are.
@@ -165,15 +165,10 @@ fn quotient(sum: u32, count: u32) -> u32 {
 }
 
 // The sum of the differences at a level up to 6, over how many steps, and their average.
-pub fn distance(out: &mut [u8; LENGTH], level: u32) -> usize {
+pub fn distance(level: u32) -> Answer {
     if 6 < level {
-        return 0;
+        return Answer(out::NONE, 0, 0, 0);
     }
     let all = differences_at(level);
-    out::form(
-        out,
-        0,
-        b"% over % steps, average %",
-        &[all.sum, all.count, quotient(all.sum, all.count)],
-    )
+    Answer(out::AVERAGE, all.sum, all.count, quotient(all.sum, all.count))
 }

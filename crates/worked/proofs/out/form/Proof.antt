@@ -5,10 +5,10 @@ use Rattle.worked.proofs.out.form.Statement.{statement}
 use Rattle.worked.proofs.out.form.Tie as tie
 
 abbrev Inv-loop : tie.InvT-loop
-Inv-loop out₀ from format values at₀ used₀ i₀ i-end out at used i = i ≤ i-end
+Inv-loop out₀ from style format values at₀ used₀ i₀ i-end out at used i = i ≤ i-end
 
 abbrev μ-loop : tie.MeasureT-loop
-μ-loop out₀ from format values at₀ used₀ i₀ i-end out at used i = i-end - i
+μ-loop out₀ from style format values at₀ used₀ i₀ i-end out at used i = i-end - i
 
 loop-holds : tie.Need-loop-holds Inv-loop μ-loop
 loop-holds c = search needs
