@@ -76,19 +76,6 @@ fn put_chart(
     out::numbers(out, second, ages)
 }
 
-fn day_in(
-    out: &mut [u8; LENGTH],
-    style: Style,
-    limit: u32,
-    new: &[f32],
-    clouds: &[u8],
-    temperatures: &mut [f32],
-    ages: &mut [u8],
-) -> usize {
-    let answer = day::day(style.level, limit, new, clouds, temperatures, ages);
-    put_chart(out, style, answer, temperatures, ages)
-}
-
 // A day on the chart of the third and fourth lists, with the new temperatures and the cloud mask.
 fn day_on(
     out: &mut [u8; LENGTH],
@@ -107,15 +94,17 @@ fn day_on(
         &mut temperatures,
     );
     lists::copy_bytes(lists::cells_in(values, fourth.from, fourth.to), &mut ages);
-    day_in(
-        out,
-        style,
+    let left = lists::front_reals(&mut temperatures, third.size);
+    let days = lists::front(&mut ages, fourth.size);
+    let answer = day::day(
+        style.level,
         values[1],
         lists::reals_in(new, 0, size),
         clouds,
-        lists::front_reals(&mut temperatures, third.size),
-        lists::front(&mut ages, fourth.size),
-    )
+        left,
+        days,
+    );
+    put_chart(out, style, answer, left, days)
 }
 
 // The four lists of a day: new temperatures, clouded cells, old temperatures and ages.

@@ -148,19 +148,6 @@ fn put_made(
     put_mask(out, style, mask)
 }
 
-fn run_in(
-    out: &mut [u8; LENGTH],
-    call: usize,
-    style: Style,
-    number: u32,
-    one: &[u8],
-    other: &mut [u8],
-    to: &mut [u8],
-) -> usize {
-    let answer = make(call, style.level, number, one, other, to);
-    put_made(out, call, style, answer, to)
-}
-
 // Where the first list of a call's words begins.
 fn list_of(call: usize) -> usize {
     match call {
@@ -190,13 +177,7 @@ pub fn run(
     if !mark_all(lists::cells_in(values, second.from, second.to), other) {
         return 0;
     }
-    run_in(
-        out,
-        call,
-        style,
-        values[1],
-        one,
-        other,
-        lists::front(&mut to, size_of(style.level)),
-    )
+    let made = lists::front(&mut to, size_of(style.level));
+    let answer = make(call, style.level, values[1], one, other, made);
+    put_made(out, call, style, answer, made)
 }
