@@ -51,21 +51,15 @@ fn turn_of(code: u8, digit: u32) -> u32 {
 }
 
 // Past the first digit T, E and W change the octant; the other rules stay inside it.
-fn octant_by(octant: u32, code: u8) -> u32 {
+fn leaving(octant: u32, code: u8, level: u32, digits: u32) -> u32 {
     let from = octant % 8;
+    let shift = 2 * (level % 15);
     match code {
-        5 => (from + 4) % 8,
-        6 => from / 4 * 4 + (from + 1) % 4,
-        7 => from / 4 * 4 + (from + 3) % 4,
+        5 => (((from + 4) % 8) << shift) | digits,
+        6 => ((from / 4 * 4 + (from + 1) % 4) << shift) | digits,
+        7 => ((from / 4 * 4 + (from + 3) % 4) << shift) | digits,
         _ => NOWHERE,
     }
-}
-
-fn with_octant(octant: u32, level: u32, digits: u32) -> u32 {
-    if octant == NOWHERE {
-        return NOWHERE;
-    }
-    (octant << (2 * (level % 15))) | digits
 }
 
 // The cell to which the rule of a code leads. It begins at the last digit.
@@ -83,7 +77,7 @@ fn by_digits(level: u32, cell: u32, code: u8) -> u32 {
             return (rest << (2 * (i % 15) + 2)) | digits;
         }
     }
-    with_octant(octant_by(rest, code), level, digits)
+    leaving(rest, code, level, digits)
 }
 
 // 1 where the rule and the step agree, and else 0.
@@ -157,18 +151,14 @@ fn differences_at(level: u32) -> Differences {
     all
 }
 
-fn quotient(sum: u32, count: u32) -> u32 {
-    if count == 0 {
-        return 0;
-    }
-    sum / count
-}
-
 // The sum of the differences at a level up to 6, over how many steps, and their average.
 pub fn distance(level: u32) -> Answer {
     if 6 < level {
         return Answer(out::NONE, 0, 0, 0);
     }
     let all = differences_at(level);
-    Answer(out::AVERAGE, all.sum, all.count, quotient(all.sum, all.count))
+    if all.count == 0 {
+        return Answer(out::AVERAGE, 0, 0, 0);
+    }
+    Answer(out::AVERAGE, all.sum, all.count, all.sum / all.count)
 }

@@ -1,13 +1,12 @@
 // The names of the calls, and which words each takes.
-use crate::names;
 use crate::names::ROW;
 
 // How many names there are.
-pub const NAMES: usize = 27;
+const NAMES: usize = 27;
 
 // A name, in eight characters, and what follows it, in twelve: n a number, s a number with a sign, c a code, k up or down, l the word long where
 // it stands there, o a number where it stands there, N, C, B and R a list of numbers, codes, bytes and temperatures, / a bar, and . the end.
-const TABLE: [u8; 540] = *b"place   nn.         \
+pub const TABLE: [u8; 540] = *b"place   nn.         \
     number  nnknn.      \
     centroidnn.         \
     cell    nss.        \
@@ -34,11 +33,6 @@ const TABLE: [u8; 540] = *b"place   nn.         \
     day     nnR/Nl/R/B. \
     read    nB.         \
     write   nnN.        ";
-
-// Which call a name is; NAMES or more where it is none.
-pub fn call_of(name: &[u8]) -> usize {
-    names::row_of(&TABLE, name)
-}
 
 // Whether a letter of a shape takes a word of a kind.
 fn takes(letter: u8, kind: u8) -> bool {

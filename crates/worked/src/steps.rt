@@ -70,9 +70,18 @@ fn put_touching(out: &mut [u8; LENGTH], style: Style, cell: u32, list: &mut [u32
     }
 }
 
+// The length of the slice that touching cells are put into: 12 where the case does not say.
+fn room_of(given: &[u32]) -> u32 {
+    if given.len() == 0 {
+        return 12;
+    }
+    given[0]
+}
+
 // The cells that touch a cell, found in a slice of a given length up to 16.
-pub fn touching(out: &mut [u8; LENGTH], style: Style, cell: u32, room: usize) -> usize {
+pub fn touching(out: &mut [u8; LENGTH], style: Style, cell: u32, given: &[u32]) -> usize {
     let mut list = [0u32; 16];
+    let room = room_of(given) as usize;
     if 16 < room {
         return 0;
     }

@@ -60,8 +60,15 @@ fn addressed(text: &[u8]) -> Word {
     Word(b'?', 0, 1)
 }
 
-// A whole number, from its digits and whether a minus sign stood before them.
-fn number(text: &[u8], negative: bool) -> Word {
+// A number or a temperature, from its digits and whether a minus sign stood before them.
+fn numeric(text: &[u8], negative: bool) -> Word {
+    if bytes::scan::find(text, 0, text.len(), b'.') < text.len() {
+        let bits = temperature::read(text, negative);
+        if bits == temperature::NO_NUMBER {
+            return Word(b'?', 0, 1);
+        }
+        return Word(b'r', bits, 1);
+    }
     let n = decimal::digits_of(text);
     if 0xffff_ffff < n {
         return Word(b'?', 0, 1);
@@ -73,17 +80,6 @@ fn number(text: &[u8], negative: bool) -> Word {
         return Word(b'?', 0, 1);
     }
     Word(b'-', n as u32, 1)
-}
-
-fn numeric(text: &[u8], negative: bool) -> Word {
-    if bytes::scan::find(text, 0, text.len(), b'.') < text.len() {
-        let bits = temperature::read(text, negative);
-        if bits == temperature::NO_NUMBER {
-            return Word(b'?', 0, 1);
-        }
-        return Word(b'r', bits, 1);
-    }
-    number(text, negative)
 }
 
 fn single(text: &[u8]) -> Word {
