@@ -29,13 +29,11 @@ fn position_call(call: usize, level: u32, kinds: &[u8], values: &[u32; WORDS]) -
     }
     let latitude = signed(kinds[1], values[1]);
     let longitude = signed(kinds[2], values[2]);
-    if call == 3 {
-        return cells::cell(level, latitude, longitude);
-    }
-    cells::near(
+    cells::cell(
         level,
         latitude,
         longitude,
+        call == 3,
         lists::cells_in(values, 3, kinds.len() - 1),
     )
 }

@@ -65,13 +65,6 @@ pub fn centroid(level: u32, cell: u32) -> Answer {
     }
 }
 
-pub fn cell(level: u32, latitude: i32, longitude: i32) -> Answer {
-    match position::cell_at(level, Latitude(latitude), Longitude(longitude)) {
-        CellAnswer::Number(cell) => Answer(out::CELL, cell, 0, 0),
-        CellAnswer::Refused(n) => Answer(out::REFUSED, n as u32, 0, 0),
-    }
-}
-
 pub fn centre(level: u32, cell: u32) -> Answer {
     match centre::centre_of(level, cell) {
         CentreAnswer::At(latitude, longitude) => Answer(
@@ -106,10 +99,15 @@ fn relation(level: u32, cell: u32, list: &[u32]) -> usize {
     form
 }
 
-// The cell at a position against a list of cells.
-pub fn near(level: u32, latitude: i32, longitude: i32, list: &[u32]) -> Answer {
+// The cell at a position, alone or against a list of cells.
+pub fn cell(level: u32, latitude: i32, longitude: i32, alone: bool, list: &[u32]) -> Answer {
     match position::cell_at(level, Latitude(latitude), Longitude(longitude)) {
-        CellAnswer::Number(cell) => Answer(relation(level, cell, list), 0, 0, 0),
+        CellAnswer::Number(cell) => {
+            if alone {
+                return Answer(out::CELL, cell, 0, 0);
+            }
+            Answer(relation(level, cell, list), 0, 0, 0)
+        }
         CellAnswer::Refused(n) => Answer(out::REFUSED, n as u32, 0, 0),
     }
 }

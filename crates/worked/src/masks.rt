@@ -46,18 +46,6 @@ pub fn mark_all(cells: &[u32], mask: &mut [u8]) -> bool {
     true
 }
 
-// Puts the marked cells of a mask into a slice, or none.
-fn put_mask(out: &mut [u8; LENGTH], style: Style, mask: &[u8]) -> usize {
-    let mut at = 0;
-    for i in 0..mask.len() {
-        at = put_byte(out, at, style, mask, i);
-    }
-    if at == 0 {
-        return out::text(out, 0, b"none");
-    }
-    at
-}
-
 // A cell, where it is marked.
 fn put_marked(out: &mut [u8; LENGTH], at: usize, style: Style, mask: &[u8], cell: u32) -> usize {
     if !bitset::is_marked(mask, cell) {
@@ -67,12 +55,15 @@ fn put_marked(out: &mut [u8; LENGTH], at: usize, style: Style, mask: &[u8], cell
     out::cell(out, next, style, cell)
 }
 
-// The marked cells of one byte of a mask.
-fn put_byte(out: &mut [u8; LENGTH], from: usize, style: Style, mask: &[u8], i: usize) -> usize {
-    let mut at = from;
-    let first = (i % 65536) as u32 * 8;
-    for bit in 0..8 {
-        at = put_marked(out, at, style, mask, first + bit);
+// Puts the marked cells of a mask, which has at most 65,537 bytes, into a slice, or none.
+fn put_mask(out: &mut [u8; LENGTH], style: Style, mask: &[u8]) -> usize {
+    let cells = (mask.len() % 0x2_0000) as u32 * 8;
+    let mut at = 0;
+    for cell in 0..cells {
+        at = put_marked(out, at, style, mask, cell);
+    }
+    if at == 0 {
+        return out::text(out, 0, b"none");
     }
     at
 }

@@ -49,7 +49,7 @@ pub const CELLS: usize = 22;
 // The length of a row.
 const FORM: usize = 28;
 
-// Up to the bar a row is the text of an answer, in which each of the characters ! to & stands for a value: % for a number, $ for one with its
+// Up to the first bar a row is the text of an answer, in which each of the characters ! to & stands for a value: % for a number, $ for one with its
 // sign, & for a cell, ! for a code, and # for a temperature, by its bits.
 const FORMS: [u8; 588] = *b"refused %|||||||||||||||||||\
     &|||||||||||||||||||||||||||\
@@ -136,7 +136,7 @@ fn value_at(values: &[u32], i: usize) -> u32 {
     0
 }
 
-// A character of a form: a value where it is one of ! to &, or itself.
+// A character of a form: a value where it is one of ! to &, nothing where it is a bar, or itself.
 fn form_character(
     out: &mut [u8; LENGTH],
     at: usize,
@@ -150,6 +150,7 @@ fn form_character(
         b'&' => cell(out, at, style, value),
         b'!' => code(out, at, value),
         b'#' => temperature::put(out, at, value),
+        b'|' => at,
         _ => text(out, at, &[character]),
     }
 }
@@ -184,12 +185,11 @@ pub fn put(out: &mut [u8; LENGTH], at: usize, style: Style, answer: Answer) -> u
         return 0;
     }
     let from = FORM * row;
-    let end = bytes::scan::find(&FORMS, from, from + FORM, b'|');
     form(
         out,
         at,
         style,
-        &FORMS[from..end],
+        &FORMS[from..from + FORM],
         &[answer.1, answer.2, answer.3],
     )
 }
