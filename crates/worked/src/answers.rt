@@ -119,10 +119,6 @@ fn read_words(
     words::read(list, first, kinds, values)
 }
 
-fn has_address(expected: &[u8]) -> bool {
-    bytes::scan::find(expected, 0, expected.len(), b'@') < expected.len()
-}
-
 // Puts the answer of a case into a slice, and answers its length: 0 where it is no case, and past the slice where the answer has no room. `list`
 // is what the word list stands for. Cells are answered as addresses where the expected answer has them.
 pub fn answer(out: &mut [u8; LENGTH], case: &[u8], list: &[u8], expected: &[u8]) -> usize {
@@ -132,5 +128,6 @@ pub fn answer(out: &mut [u8; LENGTH], case: &[u8], list: &[u8], expected: &[u8])
     let call = names::row_of(&shapes::TABLE, &case[0..end]);
     let words = read_words(&case[end..], list, &mut kinds, &mut values);
     let count = ended(words, &mut kinds);
-    make(out, call, has_address(expected), count, &kinds, &values)
+    let address = bytes::scan::find(expected, 0, expected.len(), b'@');
+    make(out, call, address < expected.len(), count, &kinds, &values)
 }

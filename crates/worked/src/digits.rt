@@ -5,7 +5,7 @@ use step::StepAnswer;
 
 // For each code and each digit what the rule makes of it: a digit, with 4 added where the rule goes on to the digit before, or 8 where there is no
 // such step. T, E and W leave the octant: there is such a step where t, r or l would go on past the first digit.
-const TURNS: [u8; 32] = [
+const TURNS: [u32; 32] = [
     1,
     0,
     6,
@@ -42,12 +42,8 @@ const TURNS: [u8; 32] = [
 
 const NOWHERE: u32 = 0xffff_ffff;
 
-fn wide(n: u8) -> u32 {
-    n as u32
-}
-
 fn turn_of(code: u8, digit: u32) -> u32 {
-    wide(TURNS[(code % 8) as usize * 4 + (digit % 4) as usize])
+    TURNS[(code % 8) as usize * 4 + (digit % 4) as usize]
 }
 
 // Past the first digit T, E and W change the octant; the other rules stay inside it.

@@ -19,25 +19,45 @@ pub struct Answer(pub usize, pub u32, pub u32, pub u32);
 
 // The forms, by their rows in the table.
 pub const REFUSED: usize = 0;
+
 pub const CELL: usize = 1;
+
 pub const NUMBER: usize = 2;
+
 pub const UP: usize = 3;
+
 pub const DOWN: usize = 4;
+
 pub const CENTROID: usize = 5;
+
 pub const CENTRE: usize = 6;
+
 pub const IN: usize = 7;
+
 pub const TOUCHES: usize = 8;
+
 pub const APART: usize = 9;
+
 pub const TOUCH: usize = 10;
+
 pub const CODE: usize = 11;
+
 pub const PART: usize = 12;
+
 pub const AVERAGE: usize = 13;
+
 pub const YES: usize = 14;
+
 pub const LACKS: usize = 15;
+
 pub const FRESH: usize = 16;
+
 pub const CARRIED: usize = 17;
+
 pub const GAP: usize = 18;
+
 pub const SUMMARY: usize = 19;
+
 pub const LEVEL: usize = 20;
 
 // No form: of a case that cannot be read.
@@ -155,25 +175,15 @@ fn form_character(
     }
 }
 
-fn used_after(used: usize, character: u8) -> usize {
-    if b' ' < character && character < b'(' {
-        return used % 16 + 1;
-    }
-    used
-}
-
-fn form(
-    out: &mut [u8; LENGTH],
-    from: usize,
-    style: Style,
-    format: &[u8],
-    values: &[u32],
-) -> usize {
+fn form(out: &mut [u8; LENGTH], from: usize, style: Style, format: &[u8], values: &[u32]) -> usize {
     let mut at = from;
     let mut used = 0;
     for i in 0..format.len() {
-        at = form_character(out, at, style, format[i], value_at(values, used));
-        used = used_after(used, format[i]);
+        let character = format[i];
+        at = form_character(out, at, style, character, value_at(values, used));
+        if b' ' < character && character < b'(' {
+            used = used % 16 + 1;
+        }
     }
     at
 }

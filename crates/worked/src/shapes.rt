@@ -53,11 +53,6 @@ fn is_list(letter: u8) -> bool {
     }
 }
 
-// Whether a letter may stand for nothing.
-fn may_lack(letter: u8) -> bool {
-    is_list(letter) || letter == b'l' || letter == b'o'
-}
-
 // The place in a shape after it took a word; past its end where it takes none.
 fn place_after(shape: &[u8], from: usize, kind: u8) -> usize {
     let mut i = from;
@@ -66,7 +61,7 @@ fn place_after(shape: &[u8], from: usize, kind: u8) -> usize {
         if takes(letter, kind) {
             return if is_list(letter) { i } else { i + 1 };
         }
-        if !may_lack(letter) {
+        if !is_list(letter) && letter != b'l' && letter != b'o' {
             return ROW;
         }
         i += 1;
