@@ -120,17 +120,20 @@ struct Differences {
     count: u32,
 }
 
-fn difference(a: u32, b: u32) -> u32 {
-    if a < b { b - a } else { a - b }
-}
-
 // With the difference that a step makes, where there is a step. Up to level 6 it is below 4,096, and sum and count stay far below 2^30.
 fn with_step(all: Differences, level: u32, cell: u32, code: u8) -> Differences {
     match step::step_along(level, cell, code) {
-        StepAnswer::To(next) => Differences {
-            sum: all.sum % 0x4000_0000 + difference(cell, next) % 4096,
-            count: all.count % 0x4000_0000 + 1,
-        },
+        StepAnswer::To(next) => {
+            let difference = if cell < next {
+                next - cell
+            } else {
+                cell - next
+            };
+            Differences {
+                sum: all.sum % 0x4000_0000 + difference % 4096,
+                count: all.count % 0x4000_0000 + 1,
+            }
+        }
         StepAnswer::Refused(_) => all,
     }
 }

@@ -181,7 +181,7 @@ fn form(out: &mut [u8; LENGTH], from: usize, style: Style, format: &[u8], values
     for i in 0..format.len() {
         let character = format[i];
         at = form_character(out, at, style, character, value_at(values, used));
-        if b' ' < character && character < b'(' {
+        if b' ' < character && character <= b'&' {
             used = used % 16 + 1;
         }
     }
