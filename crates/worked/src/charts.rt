@@ -115,8 +115,8 @@ pub fn day(out: &mut [u8; LENGTH], style: Style, kinds: &[u8], values: &[u32; WO
     let mut new = [0.0f32; WORDS];
     let mut all = [0u8; masks::BYTES];
     copy_reals(lists::cells_in(values, first.from, first.to), &mut new);
-    let clouds = lists::front(&mut all, masks::size_with(style.level, second.long));
-    if !masks::mark_all(lists::cells_in(values, second.from, second.to), clouds) {
+    let clouds = masks::marked(&mut all, style.level, second, values);
+    if clouds.len() == 0 {
         return 0;
     }
     day_on(

@@ -1,5 +1,6 @@
 // Masks, given by their marked cells.
 use crate::lists;
+use crate::lists::Part;
 use crate::out;
 use crate::out::Answer;
 use crate::out::LENGTH;
@@ -21,7 +22,7 @@ fn size_of(level: u32) -> usize {
 }
 
 // One more where the word long stood there.
-pub fn size_with(level: u32, long: bool) -> usize {
+fn size_with(level: u32, long: bool) -> usize {
     if long {
         size_of(level) % 0x2_0000 + 1
     } else {
@@ -35,7 +36,7 @@ fn byte_of(cell: u32) -> usize {
 }
 
 // Marks cells, and answers whether the mask has them all.
-pub fn mark_all(cells: &[u32], mask: &mut [u8]) -> bool {
+fn mark_all(cells: &[u32], mask: &mut [u8]) -> bool {
     for i in 0..cells.len() {
         let cell = cells[i];
         if mask.len() <= byte_of(cell) {
@@ -44,6 +45,20 @@ pub fn mark_all(cells: &[u32], mask: &mut [u8]) -> bool {
         bitset::mark(mask, cell);
     }
     true
+}
+
+// The front of a slice as a mask of a level, with the cells of a list marked; empty where it lacks one of them.
+pub fn marked<'a>(
+    all: &'a mut [u8],
+    level: u32,
+    part: Part,
+    values: &[u32; WORDS],
+) -> &'a mut [u8] {
+    let mask = lists::front(all, size_with(level, part.long));
+    if mark_all(lists::cells_in(values, part.from, part.to), mask) {
+        return mask;
+    }
+    &mut mask[0..0]
 }
 
 // A cell, where it is marked.
@@ -160,12 +175,9 @@ pub fn run(
     let mut all = [0u8; BYTES];
     let mut others = [0u8; BYTES];
     let mut to = [0u8; BYTES];
-    let one = lists::front(&mut all, size_with(style.level, first.long));
-    let other = lists::front(&mut others, size_with(style.level, second.long));
-    if !mark_all(lists::cells_in(values, first.from, first.to), one) {
-        return 0;
-    }
-    if !mark_all(lists::cells_in(values, second.from, second.to), other) {
+    let one = marked(&mut all, style.level, first, values);
+    let other = marked(&mut others, style.level, second, values);
+    if one.len() == 0 || other.len() == 0 {
         return 0;
     }
     let made = lists::front(&mut to, size_of(style.level));
