@@ -1,6 +1,7 @@
 // Stored borders.
 use crate::lists;
 use crate::out;
+use crate::out::Answer;
 use crate::out::LENGTH;
 use crate::out::Style;
 use crate::words::WORDS;
@@ -14,7 +15,7 @@ const CELLS: usize = 4098;
 const BYTES: usize = 1545;
 
 fn put_border(out: &mut [u8; LENGTH], style: Style, level: u32, cells: &[u32]) -> usize {
-    let next = out::form(out, 0, b"level %:", &[level]);
+    let next = out::put(out, 0, style, Answer(out::LEVEL, level, 0, 0));
     out::cells(
         out,
         next,
@@ -35,30 +36,21 @@ fn read_in(out: &mut [u8; LENGTH], style: Style, bytes: &[u8], cells: &mut [u32]
     }
 }
 
-// Reads a stored border into a slice of so many cells.
-fn read_bytes(
-    out: &mut [u8; LENGTH],
-    style: Style,
-    room: u32,
-    bytes: &[u8; WORDS],
-    length: usize,
-) -> usize {
+// Reads a stored border into a slice of so many cells as the first word says, where other calls have the level.
+pub fn read(out: &mut [u8; LENGTH], style: Style, list: &[u32]) -> usize {
+    let mut bytes = [0u8; WORDS];
     let mut cells = [0u32; CELLS];
-    if CELLS < room as usize {
+    let room = style.level as usize;
+    lists::copy_bytes(list, &mut bytes);
+    if CELLS < room {
         return 0;
     }
     read_in(
         out,
         style,
-        lists::bytes_in(bytes, 0, length),
-        lists::front_cells(&mut cells, room as usize),
+        lists::bytes_in(&bytes, 0, list.len()),
+        lists::front_cells(&mut cells, room),
     )
-}
-
-pub fn read(out: &mut [u8; LENGTH], style: Style, room: u32, list: &[u32]) -> usize {
-    let mut bytes = [0u8; WORDS];
-    lists::copy_bytes(list, &mut bytes);
-    read_bytes(out, style, room, &bytes, list.len())
 }
 
 fn write_in(out: &mut [u8; LENGTH], level: u32, cells: &[u32], bytes: &mut [u8]) -> usize {

@@ -3,7 +3,9 @@ use crate::lists;
 use crate::lists::Part;
 use crate::masks;
 use crate::out;
+use crate::out::Answer;
 use crate::out::LENGTH;
+use crate::out::Style;
 use crate::temperature;
 use crate::words::WORDS;
 use chart::ReadingAnswer;
@@ -17,40 +19,19 @@ fn copy_reals(from: &[u32], to: &mut [f32]) {
     }
 }
 
-fn put_reading(out: &mut [u8; LENGTH], answer: ReadingAnswer) -> usize {
+fn of_reading(answer: ReadingAnswer) -> Answer {
     match answer {
-        ReadingAnswer::Fresh(t) => out::form(out, 0, b"fresh ~", &[temperature::bits_of(t)]),
-        ReadingAnswer::Carried(t, days) => out::form(
-            out,
-            0,
-            b"carried ~ days %",
-            &[temperature::bits_of(t), days as u32],
-        ),
-        ReadingAnswer::Gap => out::text(out, 0, b"gap"),
-        ReadingAnswer::Refused(n) => out::refused(out, 0, n),
+        ReadingAnswer::Fresh(t) => Answer(out::FRESH, temperature::bits_of(t), 0, 0),
+        ReadingAnswer::Carried(t, days) => {
+            Answer(out::CARRIED, temperature::bits_of(t), days as u32, 0)
+        }
+        ReadingAnswer::Gap => Answer(out::GAP, 0, 0, 0),
+        ReadingAnswer::Refused(n) => Answer(out::REFUSED, n as u32, 0, 0),
     }
 }
 
-fn reading_in(
-    out: &mut [u8; LENGTH],
-    level: u32,
-    cell: u32,
-    temperatures: &[f32; WORDS],
-    size: usize,
-    ages: &[u8; WORDS],
-    length: usize,
-) -> usize {
-    let answer = chart::reading_of(
-        level,
-        lists::reals_in(temperatures, 0, size),
-        lists::bytes_in(ages, 0, length),
-        cell,
-    );
-    put_reading(out, answer)
-}
-
 // The reading of a cell, with the two lists of its chart.
-pub fn reading(out: &mut [u8; LENGTH], level: u32, kinds: &[u8], values: &[u32; WORDS]) -> usize {
+pub fn reading(level: u32, kinds: &[u8], values: &[u32; WORDS]) -> Answer {
     let first = lists::part_at(kinds, 2);
     let second = lists::part_at(kinds, first.next);
     let mut temperatures = [0.0f32; WORDS];
@@ -60,63 +41,45 @@ pub fn reading(out: &mut [u8; LENGTH], level: u32, kinds: &[u8], values: &[u32; 
         &mut temperatures,
     );
     lists::copy_bytes(lists::cells_in(values, second.from, second.to), &mut ages);
-    reading_in(
-        out,
+    of_reading(chart::reading_of(
         level,
+        lists::reals_in(&temperatures, 0, first.size),
+        lists::bytes_in(&ages, 0, second.size),
         values[1],
-        &temperatures,
-        first.size,
-        &ages,
-        second.size,
-    )
+    ))
 }
 
-fn put_day(out: &mut [u8; LENGTH], answer: DayAnswer) -> usize {
+fn of_day(answer: DayAnswer) -> Answer {
     match answer {
-        DayAnswer::Summed(summary) => out::form(
-            out,
-            0,
-            b"fresh % coldest ~ warmest ~",
-            &[
-                summary.count,
-                temperature::bits_of(summary.coldest),
-                temperature::bits_of(summary.warmest),
-            ],
+        DayAnswer::Summed(summary) => Answer(
+            out::SUMMARY,
+            summary.count,
+            temperature::bits_of(summary.coldest),
+            temperature::bits_of(summary.warmest),
         ),
-        DayAnswer::Refused(n) => out::refused(out, 0, n),
+        DayAnswer::Refused(n) => Answer(out::REFUSED, n as u32, 0, 0),
     }
 }
 
 // A day, and what it leaves of the two slices of the chart.
 fn put_chart(
     out: &mut [u8; LENGTH],
+    style: Style,
     answer: DayAnswer,
     temperatures: &[f32],
     ages: &[u8],
 ) -> usize {
-    let at = put_day(out, answer);
+    let at = out::put(out, 0, style, of_day(answer));
     let first = out::text(out, at, b" /");
     let next = temperature::put_all(out, first, temperatures);
     let second = out::text(out, next, b" /");
     out::numbers(out, second, ages)
 }
 
-fn day_in(
-    out: &mut [u8; LENGTH],
-    level: u32,
-    limit: u32,
-    new: &[f32],
-    clouds: &[u8],
-    temperatures: &mut [f32],
-    ages: &mut [u8],
-) -> usize {
-    let answer = day::day(level, limit, new, clouds, temperatures, ages);
-    put_chart(out, answer, temperatures, ages)
-}
-
 // A day on the chart of the third and fourth lists, with the new temperatures and the cloud mask.
 fn day_on(
     out: &mut [u8; LENGTH],
+    style: Style,
     new: &[f32; WORDS],
     size: usize,
     clouds: &[u8],
@@ -131,31 +94,34 @@ fn day_on(
         &mut temperatures,
     );
     lists::copy_bytes(lists::cells_in(values, fourth.from, fourth.to), &mut ages);
-    day_in(
-        out,
-        values[0],
+    let left = lists::front_reals(&mut temperatures, third.size);
+    let days = lists::front(&mut ages, fourth.size);
+    let answer = day::day(
+        style.level,
         values[1],
         lists::reals_in(new, 0, size),
         clouds,
-        lists::front_reals(&mut temperatures, third.size),
-        lists::front(&mut ages, fourth.size),
-    )
+        left,
+        days,
+    );
+    put_chart(out, style, answer, left, days)
 }
 
 // The four lists of a day: new temperatures, clouded cells, old temperatures and ages.
-pub fn day(out: &mut [u8; LENGTH], kinds: &[u8], values: &[u32; WORDS]) -> usize {
+pub fn day(out: &mut [u8; LENGTH], style: Style, kinds: &[u8], values: &[u32; WORDS]) -> usize {
     let first = lists::part_at(kinds, 2);
     let second = lists::part_at(kinds, first.next);
     let third = lists::part_at(kinds, second.next);
     let mut new = [0.0f32; WORDS];
     let mut all = [0u8; masks::BYTES];
     copy_reals(lists::cells_in(values, first.from, first.to), &mut new);
-    let clouds = lists::front(&mut all, masks::size_with(values[0], second.long));
-    if !masks::mark_all(lists::cells_in(values, second.from, second.to), clouds) {
+    let clouds = masks::marked(&mut all, style.level, second, values);
+    if clouds.len() == 0 {
         return 0;
     }
     day_on(
         out,
+        style,
         &new,
         first.size,
         clouds,

@@ -1,11 +1,11 @@
 // The digit rules of source 000 (section 2) and source 003 (section 5), run against the steps, and the average of source 003, section 6.
 use crate::out;
-use crate::out::LENGTH;
+use crate::out::Answer;
 use step::StepAnswer;
 
 // For each code and each digit what the rule makes of it: a digit, with 4 added where the rule goes on to the digit before, or 8 where there is no
 // such step. T, E and W leave the octant: there is such a step where t, r or l would go on past the first digit.
-const TURNS: [u8; 32] = [
+const TURNS: [u32; 32] = [
     1,
     0,
     6,
@@ -42,30 +42,20 @@ const TURNS: [u8; 32] = [
 
 const NOWHERE: u32 = 0xffff_ffff;
 
-fn wide(n: u8) -> u32 {
-    n as u32
-}
-
 fn turn_of(code: u8, digit: u32) -> u32 {
-    wide(TURNS[(code % 8) as usize * 4 + (digit % 4) as usize])
+    TURNS[(code % 8) as usize * 4 + (digit % 4) as usize]
 }
 
 // Past the first digit T, E and W change the octant; the other rules stay inside it.
-fn octant_by(octant: u32, code: u8) -> u32 {
+fn leaving(octant: u32, code: u8, level: u32, digits: u32) -> u32 {
     let from = octant % 8;
+    let shift = 2 * (level % 15);
     match code {
-        5 => (from + 4) % 8,
-        6 => from / 4 * 4 + (from + 1) % 4,
-        7 => from / 4 * 4 + (from + 3) % 4,
+        5 => (((from + 4) % 8) << shift) | digits,
+        6 => ((from / 4 * 4 + (from + 1) % 4) << shift) | digits,
+        7 => ((from / 4 * 4 + (from + 3) % 4) << shift) | digits,
         _ => NOWHERE,
     }
-}
-
-fn with_octant(octant: u32, level: u32, digits: u32) -> u32 {
-    if octant == NOWHERE {
-        return NOWHERE;
-    }
-    (octant << (2 * (level % 15))) | digits
 }
 
 // The cell to which the rule of a code leads. It begins at the last digit.
@@ -83,7 +73,7 @@ fn by_digits(level: u32, cell: u32, code: u8) -> u32 {
             return (rest << (2 * (i % 15) + 2)) | digits;
         }
     }
-    with_octant(octant_by(rest, code), level, digits)
+    leaving(rest, code, level, digits)
 }
 
 // 1 where the rule and the step agree, and else 0.
@@ -116,12 +106,12 @@ fn run_rule(level: u32, code: u8) -> u32 {
 }
 
 // The rule of a code against its step, at a level up to 4.
-pub fn rule(out: &mut [u8; LENGTH], level: u32, code: u8) -> usize {
+pub fn rule(level: u32, code: u8) -> Answer {
     if 4 < level {
-        return 0;
+        return Answer(out::NONE, 0, 0, 0);
     }
     let cells = 8 << (2 * (level % 5));
-    out::form(out, 0, b"% of %", &[run_rule(level, code), cells])
+    Answer(out::PART, run_rule(level, code), cells, 0)
 }
 
 // Differences of cell numbers: their sum and how many they are.
@@ -130,17 +120,20 @@ struct Differences {
     count: u32,
 }
 
-fn difference(a: u32, b: u32) -> u32 {
-    if a < b { b - a } else { a - b }
-}
-
 // With the difference that a step makes, where there is a step. Up to level 6 it is below 4,096, and sum and count stay far below 2^30.
 fn with_step(all: Differences, level: u32, cell: u32, code: u8) -> Differences {
     match step::step_along(level, cell, code) {
-        StepAnswer::To(next) => Differences {
-            sum: all.sum % 0x4000_0000 + difference(cell, next) % 4096,
-            count: all.count % 0x4000_0000 + 1,
-        },
+        StepAnswer::To(next) => {
+            let difference = if cell < next {
+                next - cell
+            } else {
+                cell - next
+            };
+            Differences {
+                sum: all.sum % 0x4000_0000 + difference % 4096,
+                count: all.count % 0x4000_0000 + 1,
+            }
+        }
         StepAnswer::Refused(_) => all,
     }
 }
@@ -157,23 +150,14 @@ fn differences_at(level: u32) -> Differences {
     all
 }
 
-fn quotient(sum: u32, count: u32) -> u32 {
-    if count == 0 {
-        return 0;
-    }
-    sum / count
-}
-
 // The sum of the differences at a level up to 6, over how many steps, and their average.
-pub fn distance(out: &mut [u8; LENGTH], level: u32) -> usize {
+pub fn distance(level: u32) -> Answer {
     if 6 < level {
-        return 0;
+        return Answer(out::NONE, 0, 0, 0);
     }
     let all = differences_at(level);
-    out::form(
-        out,
-        0,
-        b"% over % steps, average %",
-        &[all.sum, all.count, quotient(all.sum, all.count)],
-    )
+    if all.count == 0 {
+        return Answer(out::AVERAGE, 0, 0, 0);
+    }
+    Answer(out::AVERAGE, all.sum, all.count, all.sum / all.count)
 }

@@ -57,14 +57,6 @@ fn is_heading(line: &[u8]) -> bool {
     line[0] == b'#' || is_list(line)
 }
 
-// The words of a line that says what `list` stands for.
-fn words_of(line: &[u8]) -> &[u8] {
-    if line.len() < 5 {
-        return line;
-    }
-    &line[5..]
-}
-
 // What `list` stands for at a place of the input: the words of the last such line before it.
 fn list_before(input: &[u8], place: usize) -> &[u8] {
     let mut from = 0;
@@ -81,13 +73,7 @@ fn list_before(input: &[u8], place: usize) -> &[u8] {
         }
         at = end + 1;
     }
-    words_of(trimmed(&input[from..to]))
-}
-
-fn print_unread(line: &[u8], why: &[u8]) {
-    print(b"WRONG ");
-    print(line);
-    print(why);
+    after(trimmed(&input[from..to]), 4)
 }
 
 fn print_judged(right: bool, case: &[u8], answer: &[u8], expected: &[u8]) {
@@ -104,12 +90,7 @@ fn print_judged(right: bool, case: &[u8], answer: &[u8], expected: &[u8]) {
     print(b")\n");
 }
 
-// The score with a case that gave no answer to judge: it is judged as one that differs.
-fn missed(score: Score) -> Score {
-    judge::judged(score, b"", b"?")
-}
-
-// The answer of a case, so many bytes of a buffer, against the expected one.
+// The answer of a case, so many bytes of a buffer, against the expected one. No answer is judged as one that differs.
 fn judge_answer(
     score: Score,
     case: &[u8],
@@ -117,13 +98,9 @@ fn judge_answer(
     buffer: &[u8; LENGTH],
     n: usize,
 ) -> Score {
-    if n == 0 {
-        print_unread(case, b" (cannot be read as a case)\n");
-        return missed(score);
-    }
-    if LENGTH < n {
-        print_unread(case, b" (the answer is too long)\n");
-        return missed(score);
+    if n == 0 || LENGTH < n {
+        print_judged(false, case, b"none: no case, or too long", expected);
+        return judge::judged(score, b"", b"?");
     }
     let answer = lists::bytes_in(buffer, 0, n);
     let after = judge::judged(score, answer, expected);
@@ -138,28 +115,24 @@ fn run_case(score: Score, case: &[u8], expected: &[u8], list: &[u8]) -> Score {
     judge_answer(score, case, expected, &buffer, n)
 }
 
-// The text after an equals sign, without the space before it.
-fn after_space(text: &[u8]) -> &[u8] {
-    if text.len() == 0 {
-        return text;
+// The text from a place on, without a space at its front; none where the place is past the end.
+fn after(text: &[u8], place: usize) -> &[u8] {
+    if text.len() <= place {
+        return &text[0..0];
     }
-    if text[0] == b' ' {
-        return &text[1..];
+    if text[place] == b' ' {
+        return &text[place + 1..];
     }
-    text
+    &text[place..]
 }
 
-// A line that is to be a case.
+// A line that is to be a case. Where no answer is expected, none is right: every answer has a character.
 fn run_line(score: Score, line: &[u8], list: &[u8]) -> Score {
     let equals = bytes::scan::find(line, 0, line.len(), b'=');
-    if line.len() <= equals {
-        print_unread(line, b" (no answer is expected)\n");
-        return missed(score);
-    }
     run_case(
         score,
         trimmed(&line[0..equals]),
-        after_space(&line[equals + 1..]),
+        after(line, equals + 1),
         list,
     )
 }

@@ -2,24 +2,17 @@
 use crate::out;
 use crate::out::LENGTH;
 
-// Whether a character may stand at a place of an address.
-fn is_digit(place: usize, character: u8) -> bool {
-    if character < b'0' {
-        return false;
-    }
-    if place == 0 {
-        return character < b'8';
-    }
-    character < b'4'
-}
-
 // Whether a text is an address of some level.
 pub fn is_address(address: &[u8]) -> bool {
     if address.len() == 0 {
         return false;
     }
     for i in 0..address.len() {
-        if !is_digit(i, address[i]) {
+        let character = address[i];
+        if character < b'0' || b'7' < character {
+            return false;
+        }
+        if 0 < i && b'3' < character {
             return false;
         }
     }

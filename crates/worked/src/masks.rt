@@ -2,6 +2,7 @@
 use crate::lists;
 use crate::lists::Part;
 use crate::out;
+use crate::out::Answer;
 use crate::out::LENGTH;
 use crate::out::Style;
 use crate::words::WORDS;
@@ -21,7 +22,7 @@ fn size_of(level: u32) -> usize {
 }
 
 // One more where the word long stood there.
-pub fn size_with(level: u32, long: bool) -> usize {
+fn size_with(level: u32, long: bool) -> usize {
     if long {
         size_of(level) % 0x2_0000 + 1
     } else {
@@ -35,7 +36,7 @@ fn byte_of(cell: u32) -> usize {
 }
 
 // Marks cells, and answers whether the mask has them all.
-pub fn mark_all(cells: &[u32], mask: &mut [u8]) -> bool {
+fn mark_all(cells: &[u32], mask: &mut [u8]) -> bool {
     for i in 0..cells.len() {
         let cell = cells[i];
         if mask.len() <= byte_of(cell) {
@@ -46,16 +47,18 @@ pub fn mark_all(cells: &[u32], mask: &mut [u8]) -> bool {
     true
 }
 
-// Puts the marked cells of a mask into a slice, or none.
-fn put_mask(out: &mut [u8; LENGTH], style: Style, mask: &[u8]) -> usize {
-    let mut at = 0;
-    for i in 0..mask.len() {
-        at = put_byte(out, at, style, mask, i);
+// The front of a slice as a mask of a level, with the cells of a list marked; empty where it lacks one of them.
+pub fn marked<'a>(
+    all: &'a mut [u8],
+    level: u32,
+    part: Part,
+    values: &[u32; WORDS],
+) -> &'a mut [u8] {
+    let mask = lists::front(all, size_with(level, part.long));
+    if mark_all(lists::cells_in(values, part.from, part.to), mask) {
+        return mask;
     }
-    if at == 0 {
-        return out::text(out, 0, b"none");
-    }
-    at
+    &mut mask[0..0]
 }
 
 // A cell, where it is marked.
@@ -67,192 +70,117 @@ fn put_marked(out: &mut [u8; LENGTH], at: usize, style: Style, mask: &[u8], cell
     out::cell(out, next, style, cell)
 }
 
-// The marked cells of one byte of a mask.
-fn put_byte(out: &mut [u8; LENGTH], from: usize, style: Style, mask: &[u8], i: usize) -> usize {
-    let mut at = from;
-    let first = (i % 65536) as u32 * 8;
-    for bit in 0..8 {
-        at = put_marked(out, at, style, mask, first + bit);
+// Puts the marked cells of a mask, which has at most 65,537 bytes, into a slice, or none.
+fn put_mask(out: &mut [u8; LENGTH], style: Style, mask: &[u8]) -> usize {
+    let cells = (mask.len() % 0x2_0000) as u32 * 8;
+    let mut at = 0;
+    for cell in 0..cells {
+        at = put_marked(out, at, style, mask, cell);
+    }
+    if at == 0 {
+        return out::text(out, 0, b"none");
     }
     at
 }
 
 // Whether so many bytes are a mask of a level.
-pub fn mask(out: &mut [u8; LENGTH], level: u32, bytes: u32) -> usize {
+pub fn mask(level: u32, bytes: u32) -> Answer {
     let all = [0u8; BYTES];
     if BYTES < bytes as usize {
-        return 0;
+        return Answer(out::NONE, 0, 0, 0);
     }
     match mask::is_mask(level, lists::bytes_in(&all, 0, bytes as usize)) {
-        Outcome::Done => out::text(out, 0, b"yes"),
-        Outcome::Refused(n) => out::refused(out, 0, n),
+        Outcome::Done => Answer(out::YES, 0, 0, 0),
+        Outcome::Refused(n) => Answer(out::REFUSED, n as u32, 0, 0),
     }
 }
 
-fn put_count(out: &mut [u8; LENGTH], level: u32, mask: &[u8]) -> usize {
+fn counted(level: u32, mask: &[u8]) -> Answer {
     match mask::count(level, mask) {
-        CountAnswer::Count(cells) => out::number(out, 0, cells),
-        CountAnswer::Refused(n) => out::refused(out, 0, n),
+        CountAnswer::Count(cells) => Answer(out::NUMBER, cells, 0, 0),
+        CountAnswer::Refused(n) => Answer(out::REFUSED, n as u32, 0, 0),
     }
 }
 
-pub fn count(out: &mut [u8; LENGTH], level: u32, part: Part, values: &[u32; WORDS]) -> usize {
-    let mut all = [0u8; BYTES];
-    let mask = lists::front(&mut all, size_with(level, part.long));
-    if !mark_all(lists::cells_in(values, part.from, part.to), mask) {
-        return 0;
-    }
-    put_count(out, level, mask)
-}
-
-fn put_spread(out: &mut [u8; LENGTH], style: Style, answer: Outcome, made: &[u8]) -> usize {
-    match answer {
-        Outcome::Done => put_mask(out, style, made),
-        Outcome::Refused(n) => out::refused(out, 0, n),
+fn within(level: u32, one: &[u8], other: &[u8]) -> Answer {
+    match mask::within(level, one, other) {
+        WithinAnswer::Within => Answer(out::YES, 0, 0, 0),
+        WithinAnswer::Lacks(cell) => Answer(out::LACKS, cell, 0, 0),
+        WithinAnswer::Refused(n) => Answer(out::REFUSED, n as u32, 0, 0),
     }
 }
 
-// A mask grown or shrunk, into a slice and with one for work.
-fn spread_in(
-    out: &mut [u8; LENGTH],
-    style: Style,
-    grows: bool,
-    rings: u32,
-    mask: &[u8],
-    made: &mut [u8],
-    work: &mut [u8],
-) -> usize {
-    if grows {
-        let answer = grow::grow(style.level, rings, mask, made, work);
-        put_spread(out, style, answer, made)
-    } else {
-        let answer = grow::shrink(style.level, rings, mask, made, work);
-        put_spread(out, style, answer, made)
+// The answer of a call that makes a mask.
+fn made(outcome: Outcome) -> Answer {
+    match outcome {
+        Outcome::Done => Answer(out::CELLS, 0, 0, 0),
+        Outcome::Refused(n) => Answer(out::REFUSED, n as u32, 0, 0),
     }
 }
 
-pub fn spread(
-    out: &mut [u8; LENGTH],
-    style: Style,
-    grows: bool,
-    part: Part,
-    values: &[u32; WORDS],
-) -> usize {
-    let mut all = [0u8; BYTES];
-    let mut made = [0u8; BYTES];
-    let mut work = [0u8; BYTES];
-    let size = size_of(style.level);
-    let mask = lists::front(&mut all, size_with(style.level, part.long));
-    if !mark_all(lists::cells_in(values, part.from, part.to), mask) {
-        return 0;
-    }
-    spread_in(
-        out,
-        style,
-        grows,
-        values[1],
-        mask,
-        lists::front(&mut made, size),
-        lists::front(&mut work, size),
-    )
-}
-
-fn put_joined(
-    out: &mut [u8; LENGTH],
-    style: Style,
+// Makes a call by its row in the table of names. The second mask serves growing and shrinking as the one for work.
+fn make(
+    call: usize,
+    level: u32,
+    number: u32,
     one: &[u8],
-    other: &[u8],
-    made: &mut [u8],
-) -> usize {
-    match mask::join(style.level, one, other, made) {
-        Outcome::Done => put_mask(out, style, made),
-        Outcome::Refused(n) => out::refused(out, 0, n),
+    other: &mut [u8],
+    to: &mut [u8],
+) -> Answer {
+    match call {
+        16 => counted(level, one),
+        17 => made(grow::grow(level, number, one, to, other)),
+        18 => made(grow::shrink(level, number, one, to, other)),
+        19 => made(mask::join(level, one, other, to)),
+        20 => within(level, one, other),
+        _ => made(fill::fill(level, one, number, to)),
     }
 }
 
-fn put_within(out: &mut [u8; LENGTH], style: Style, one: &[u8], other: &[u8]) -> usize {
-    match mask::within(style.level, one, other) {
-        WithinAnswer::Within => out::text(out, 0, b"yes"),
-        WithinAnswer::Lacks(cell) => {
-            let next = out::text(out, 0, b"lacks ");
-            out::cell(out, next, style, cell)
-        }
-        WithinAnswer::Refused(n) => out::refused(out, 0, n),
-    }
-}
-
-// Two masks: joined, or the first held against the second.
-pub fn pair(
+// The answer of a call: as it is, or the cells of the mask that it made, or, for a filled region that is counted, how many they are.
+fn put_made(
     out: &mut [u8; LENGTH],
+    call: usize,
     style: Style,
-    joins: bool,
+    answer: Answer,
+    mask: &[u8],
+) -> usize {
+    if answer.0 != out::CELLS {
+        return out::put(out, 0, style, answer);
+    }
+    if call == 22 {
+        return out::put(out, 0, style, counted(style.level, mask));
+    }
+    put_mask(out, style, mask)
+}
+
+// Where the first list of a call's words begins.
+fn list_of(call: usize) -> usize {
+    match call {
+        16 | 19 | 20 => 1,
+        _ => 2,
+    }
+}
+
+// A call on one mask or two; of one, the second is empty.
+pub fn run(
+    out: &mut [u8; LENGTH],
+    call: usize,
+    style: Style,
     kinds: &[u8],
     values: &[u32; WORDS],
 ) -> usize {
-    let first = lists::part_at(kinds, 1);
+    let first = lists::part_at(kinds, list_of(call));
     let second = lists::part_at(kinds, first.next);
     let mut all = [0u8; BYTES];
     let mut others = [0u8; BYTES];
-    let mut made = [0u8; BYTES];
-    let one = lists::front(&mut all, size_with(style.level, first.long));
-    let other = lists::front(&mut others, size_with(style.level, second.long));
-    if !mark_all(lists::cells_in(values, first.from, first.to), one) {
+    let mut to = [0u8; BYTES];
+    let one = marked(&mut all, style.level, first, values);
+    let other = marked(&mut others, style.level, second, values);
+    if one.len() == 0 || other.len() == 0 {
         return 0;
     }
-    if !mark_all(lists::cells_in(values, second.from, second.to), other) {
-        return 0;
-    }
-    if joins {
-        return put_joined(
-            out,
-            style,
-            one,
-            other,
-            lists::front(&mut made, size_of(style.level)),
-        );
-    }
-    put_within(out, style, one, other)
-}
-
-fn put_filled(
-    out: &mut [u8; LENGTH],
-    style: Style,
-    counts: bool,
-    outside: u32,
-    border: &[u8],
-    made: &mut [u8],
-) -> usize {
-    match fill::fill(style.level, border, outside, made) {
-        Outcome::Done => {
-            if counts {
-                return put_count(out, style.level, made);
-            }
-            put_mask(out, style, made)
-        }
-        Outcome::Refused(n) => out::refused(out, 0, n),
-    }
-}
-
-// A region filled: its cells, or how many they are.
-pub fn fill(
-    out: &mut [u8; LENGTH],
-    style: Style,
-    counts: bool,
-    part: Part,
-    values: &[u32; WORDS],
-) -> usize {
-    let mut all = [0u8; BYTES];
-    let mut made = [0u8; BYTES];
-    let border = lists::front(&mut all, size_with(style.level, part.long));
-    if !mark_all(lists::cells_in(values, part.from, part.to), border) {
-        return 0;
-    }
-    put_filled(
-        out,
-        style,
-        counts,
-        values[1],
-        border,
-        lists::front(&mut made, size_of(style.level)),
-    )
+    let made = lists::front(&mut to, size_of(style.level));
+    let answer = make(call, style.level, values[1], one, other, made);
+    put_made(out, call, style, answer, made)
 }

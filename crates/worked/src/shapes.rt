@@ -1,13 +1,12 @@
 // The names of the calls, and which words each takes.
-use crate::names;
 use crate::names::ROW;
 
 // How many names there are.
-pub const NAMES: usize = 27;
+const NAMES: usize = 27;
 
 // A name, in eight characters, and what follows it, in twelve: n a number, s a number with a sign, c a code, k up or down, l the word long where
 // it stands there, o a number where it stands there, N, C, B and R a list of numbers, codes, bytes and temperatures, / a bar, and . the end.
-const TABLE: [u8; 540] = *b"place   nn.         \
+pub const TABLE: [u8; 540] = *b"place   nn.         \
     number  nnknn.      \
     centroidnn.         \
     cell    nss.        \
@@ -35,11 +34,6 @@ const TABLE: [u8; 540] = *b"place   nn.         \
     read    nB.         \
     write   nnN.        ";
 
-// Which call a name is; NAMES or more where it is none.
-pub fn call_of(name: &[u8]) -> usize {
-    names::row_of(&TABLE, name)
-}
-
 // Whether a letter of a shape takes a word of a kind.
 fn takes(letter: u8, kind: u8) -> bool {
     match letter {
@@ -59,11 +53,6 @@ fn is_list(letter: u8) -> bool {
     }
 }
 
-// Whether a letter may stand for nothing.
-fn may_lack(letter: u8) -> bool {
-    is_list(letter) || letter == b'l' || letter == b'o'
-}
-
 // The place in a shape after it took a word; past its end where it takes none.
 fn place_after(shape: &[u8], from: usize, kind: u8) -> usize {
     let mut i = from;
@@ -72,7 +61,7 @@ fn place_after(shape: &[u8], from: usize, kind: u8) -> usize {
         if takes(letter, kind) {
             return if is_list(letter) { i } else { i + 1 };
         }
-        if !may_lack(letter) {
+        if !is_list(letter) && letter != b'l' && letter != b'o' {
             return ROW;
         }
         i += 1;

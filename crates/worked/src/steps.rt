@@ -1,6 +1,7 @@
 // Steps, codes, and touching cells.
 use crate::lists;
 use crate::out;
+use crate::out::Answer;
 use crate::out::LENGTH;
 use crate::out::Style;
 use corner::TouchAnswer;
@@ -8,41 +9,27 @@ use step::CodeAnswer;
 use step::StepAnswer;
 use touch::ListAnswer;
 
-// The letters of the codes 0 to 7.
-const LETTERS: [u8; 8] = *b"tlrewTEW";
-
-pub fn put_code(out: &mut [u8; LENGTH], at: usize, code: u8) -> usize {
-    if code < 8 {
-        return out::text(out, at, &[LETTERS[code as usize]]);
-    }
-    out::number(out, at, code as u32)
-}
-
-pub fn step(out: &mut [u8; LENGTH], style: Style, cell: u32, code: u8) -> usize {
-    match step::step_along(style.level, cell, code) {
-        StepAnswer::To(next) => out::cell(out, 0, style, next),
-        StepAnswer::Refused(n) => out::refused(out, 0, n),
+pub fn step(level: u32, cell: u32, code: u8) -> Answer {
+    match step::step_along(level, cell, code) {
+        StepAnswer::To(next) => Answer(out::CELL, next, 0, 0),
+        StepAnswer::Refused(n) => Answer(out::REFUSED, n as u32, 0, 0),
     }
 }
 
-// The code between two cells, after what is there.
-fn put_between(out: &mut [u8; LENGTH], at: usize, level: u32, from: u32, to: u32) -> usize {
+// The code between two cells.
+pub fn code(level: u32, from: u32, to: u32) -> Answer {
     match step::code_between(level, from, to) {
-        CodeAnswer::Along(code) => put_code(out, at, code),
-        CodeAnswer::Refused(n) => out::refused(out, at, n),
+        CodeAnswer::Along(code) => Answer(out::CODE, code as u32, 0, 0),
+        CodeAnswer::Refused(n) => Answer(out::REFUSED, n as u32, 0, 0),
     }
-}
-
-pub fn code(out: &mut [u8; LENGTH], level: u32, from: u32, to: u32) -> usize {
-    put_between(out, 0, level, from, to)
 }
 
 // The codes from each cell of a list to the next.
-pub fn codes(out: &mut [u8; LENGTH], level: u32, list: &[u32]) -> usize {
+pub fn codes(out: &mut [u8; LENGTH], style: Style, list: &[u32]) -> usize {
     let mut at = 0;
     for i in 1..list.len() {
         let next = out::space(out, at);
-        at = put_between(out, next, level, list[i - 1], list[i]);
+        at = out::put(out, next, style, code(style.level, list[i - 1], list[i]));
     }
     at
 }
@@ -53,22 +40,21 @@ pub fn path(out: &mut [u8; LENGTH], style: Style, start: u32, list: &[u32]) -> u
     let mut cell = start;
     for i in 0..list.len() {
         let next = out::space(out, at);
-        match step::step_along(style.level, cell, lists::low_byte(list[i])) {
-            StepAnswer::To(to) => {
-                at = out::cell(out, next, style, to);
-                cell = to;
-            }
-            StepAnswer::Refused(n) => return out::refused(out, next, n),
+        let answer = step(style.level, cell, lists::low_byte(list[i]));
+        at = out::put(out, next, style, answer);
+        if answer.0 != out::CELL {
+            return at;
         }
+        cell = answer.1;
     }
     at
 }
 
-pub fn touch(out: &mut [u8; LENGTH], level: u32, one: u32, other: u32) -> usize {
+pub fn touch(level: u32, one: u32, other: u32) -> Answer {
     match corner::cells_touch(level, one, other) {
-        TouchAnswer::Touch => out::text(out, 0, b"touch"),
-        TouchAnswer::NotTouching => out::text(out, 0, b"apart"),
-        TouchAnswer::Refused(n) => out::refused(out, 0, n),
+        TouchAnswer::Touch => Answer(out::TOUCH, 0, 0, 0),
+        TouchAnswer::NotTouching => Answer(out::APART, 0, 0, 0),
+        TouchAnswer::Refused(n) => Answer(out::REFUSED, n as u32, 0, 0),
     }
 }
 
@@ -84,9 +70,18 @@ fn put_touching(out: &mut [u8; LENGTH], style: Style, cell: u32, list: &mut [u32
     }
 }
 
+// The length of the slice that touching cells are put into: 12 where the case does not say.
+fn room_of(given: &[u32]) -> u32 {
+    if given.len() == 0 {
+        return 12;
+    }
+    given[0]
+}
+
 // The cells that touch a cell, found in a slice of a given length up to 16.
-pub fn touching(out: &mut [u8; LENGTH], style: Style, cell: u32, room: usize) -> usize {
+pub fn touching(out: &mut [u8; LENGTH], style: Style, cell: u32, given: &[u32]) -> usize {
     let mut list = [0u32; 16];
+    let room = room_of(given) as usize;
     if 16 < room {
         return 0;
     }

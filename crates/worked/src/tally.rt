@@ -1,6 +1,6 @@
 // How many cells the cells of a level touch.
 use crate::out;
-use crate::out::LENGTH;
+use crate::out::Answer;
 use touch::ListAnswer;
 
 // 1 where a cell touches so many cells, and else 0.
@@ -28,9 +28,9 @@ fn count_at(level: u32, so_many: u32) -> u32 {
 }
 
 // How many cells of a level up to 5 touch so many cells.
-pub fn tally(out: &mut [u8; LENGTH], level: u32, so_many: u32) -> usize {
+pub fn tally(level: u32, so_many: u32) -> Answer {
     if 5 < level {
-        return 0;
+        return Answer(out::NONE, 0, 0, 0);
     }
-    out::number(out, 0, count_at(level, so_many))
+    Answer(out::NUMBER, count_at(level, so_many), 0, 0)
 }

@@ -143,37 +143,50 @@ fn digits_for(eighths: u32) -> u32 {
     }
 }
 
-// Eighths, and a sign after them where the float is next to them.
-fn put_eighths(out: &mut [u8; LENGTH], at: usize, n: u32, mark: &[u8]) -> usize {
-    let whole = out::number(out, at, n / 8);
-    let point = out::text(out, whole, b".");
-    let last = out::number(out, point, digits_for(n % 8));
-    out::text(out, last, mark)
+// Eighths, and the sign that stands after them: that of the float next to them, or a space where it is they.
+struct Near {
+    eighths: u32,
+    mark: u8,
 }
 
-// A float that is no whole eighths: one away from some, or one back to them, or any other by its bits.
-fn put_beside(out: &mut [u8; LENGTH], at: usize, size: u32, away: &[u8], back: &[u8]) -> usize {
+// A float, by its bits but for the sign, as eighths: itself, or the one next to it, away from zero or back. The signs for these are given.
+fn nearest(size: u32, away: u8, back: u8) -> Near {
+    let own = eighths(size);
+    if own != NO_EIGHTHS {
+        return Near {
+            eighths: own,
+            mark: b' ',
+        };
+    }
     let inner = eighths((size % SIGN + SIGN - 1) % SIGN);
     if inner != NO_EIGHTHS {
-        return put_eighths(out, at, inner, away);
+        return Near {
+            eighths: inner,
+            mark: away,
+        };
     }
-    let outer = eighths(size % SIGN + 1);
-    if outer != NO_EIGHTHS {
-        return put_eighths(out, at, outer, back);
+    Near {
+        eighths: eighths(size % SIGN + 1),
+        mark: back,
     }
-    let next = out::text(out, at, b"bits ");
-    out::number(out, next, size)
 }
 
-fn put_size(out: &mut [u8; LENGTH], at: usize, size: u32, away: &[u8], back: &[u8]) -> usize {
-    let n = eighths(size);
-    if n != NO_EIGHTHS {
-        return put_eighths(out, at, n, b"");
-    }
+// A float that is near no eighths is put by its bits.
+fn put_size(out: &mut [u8; LENGTH], at: usize, size: u32, near: Near) -> usize {
     if size == INFINITY {
         return out::text(out, at, b"inf");
     }
-    put_beside(out, at, size, away, back)
+    if near.eighths == NO_EIGHTHS {
+        let next = out::text(out, at, b"bits ");
+        return out::number(out, next, size);
+    }
+    let whole = out::number(out, at, near.eighths / 8);
+    let point = out::text(out, whole, b".");
+    let last = out::number(out, point, digits_for(near.eighths % 8));
+    if near.mark == b' ' {
+        return last;
+    }
+    out::text(out, last, &[near.mark])
 }
 
 // Puts a temperature into a slice, by its bits.
@@ -182,10 +195,10 @@ pub fn put(out: &mut [u8; LENGTH], at: usize, bits: u32) -> usize {
         return out::text(out, at, b"nan");
     }
     if bits < SIGN {
-        return put_size(out, at, bits, b"+", b"-");
+        return put_size(out, at, bits, nearest(bits, b'+', b'-'));
     }
     let next = out::text(out, at, b"-");
-    put_size(out, next, bits - SIGN, b"-", b"+")
+    put_size(out, next, bits - SIGN, nearest(bits - SIGN, b'-', b'+'))
 }
 
 pub fn put_all(out: &mut [u8; LENGTH], from: usize, list: &[f32]) -> usize {

@@ -27,44 +27,28 @@ const NAMED: [u8; 300] = *b"t                   \
 // A word: its kind, its value, and how often it stands there. The kinds: b a number below 256, n one below 2^31, m one above that, - a number below
 // zero, by its size, r a temperature, by its bits, c the letter of a code, k up (8) or down (9), l the word long, / a bar, . the end of the case,
 // and ? what is none of these.
-pub struct Word {
-    pub kind: u8,
-    pub value: u32,
-    pub times: u32,
-}
-
-pub fn of_kind(kind: u8, value: u32) -> Word {
-    Word {
-        kind,
-        value,
-        times: 1,
-    }
-}
-
-pub fn unreadable() -> Word {
-    of_kind(b'?', 0)
-}
+pub struct Word(pub u8, pub u32, pub u32);
 
 pub fn whole(n: u32) -> Word {
     if n < 256 {
-        return of_kind(b'b', n);
+        return Word(b'b', n, 1);
     }
     if n < 0x8000_0000 {
-        return of_kind(b'n', n);
+        return Word(b'n', n, 1);
     }
-    of_kind(b'm', n)
+    Word(b'm', n, 1)
 }
 
 // A word by its row in the table of names.
 fn named(row: u32) -> Word {
     match row {
-        0..=7 => of_kind(b'c', row),
-        8 | 9 => of_kind(b'k', row),
-        10 => of_kind(b'l', 0),
-        11 => of_kind(b'/', 0),
-        12 => of_kind(b'r', temperature::INFINITY),
-        13 => of_kind(b'r', temperature::INFINITY + temperature::SIGN),
-        _ => of_kind(b'r', temperature::NO_NUMBER),
+        0..=7 => Word(b'c', row, 1),
+        8 | 9 => Word(b'k', row, 1),
+        10 => Word(b'l', 0, 1),
+        11 => Word(b'/', 0, 1),
+        12 => Word(b'r', temperature::INFINITY, 1),
+        13 => Word(b'r', temperature::INFINITY + temperature::SIGN, 1),
+        _ => Word(b'r', temperature::NO_NUMBER, 1),
     }
 }
 
@@ -73,38 +57,34 @@ fn addressed(text: &[u8]) -> Word {
     if marks::is_address(text) {
         return whole(address::read(text));
     }
-    unreadable()
+    Word(b'?', 0, 1)
 }
 
-// A whole number, from its digits and whether a minus sign stood before them.
-fn number(text: &[u8], negative: bool) -> Word {
+// A number or a temperature, from its digits and whether a minus sign stood before them.
+fn numeric(text: &[u8], negative: bool) -> Word {
+    if bytes::scan::find(text, 0, text.len(), b'.') < text.len() {
+        let bits = temperature::read(text, negative);
+        if bits == temperature::NO_NUMBER {
+            return Word(b'?', 0, 1);
+        }
+        return Word(b'r', bits, 1);
+    }
     let n = decimal::digits_of(text);
     if 0xffff_ffff < n {
-        return unreadable();
+        return Word(b'?', 0, 1);
     }
     if !negative {
         return whole(n as u32);
     }
     if 0x7fff_ffff < n {
-        return unreadable();
+        return Word(b'?', 0, 1);
     }
-    of_kind(b'-', n as u32)
-}
-
-fn numeric(text: &[u8], negative: bool) -> Word {
-    if bytes::scan::find(text, 0, text.len(), b'.') < text.len() {
-        let bits = temperature::read(text, negative);
-        if bits == temperature::NO_NUMBER {
-            return unreadable();
-        }
-        return of_kind(b'r', bits);
-    }
-    number(text, negative)
+    Word(b'-', n as u32, 1)
 }
 
 fn single(text: &[u8]) -> Word {
     if text.len() == 0 {
-        return unreadable();
+        return Word(b'?', 0, 1);
     }
     if text[0] == b'@' {
         return addressed(&text[1..]);
@@ -127,26 +107,22 @@ fn read_word(text: &[u8]) -> Word {
     }
     let times = decimal::digits_of(&text[0..star]);
     if 0xffff_ffff < times {
-        return unreadable();
+        return Word(b'?', 0, 1);
     }
     let once = single(&text[star + 1..]);
-    Word {
-        kind: once.kind,
-        value: once.value,
-        times: times as u32,
-    }
+    Word(once.0, once.1, times as u32)
 }
 
 // Puts a word into the lists from a place on, as often as it stands there, and answers the place after it. What does not fit is dropped.
 fn store(word: Word, from: usize, kinds: &mut [u8; WORDS], values: &mut [u32; WORDS]) -> usize {
     let mut at = from;
-    let mut left = word.times;
+    let mut left = word.2;
     while 0 < left {
         if WORDS <= at {
             return at;
         }
-        kinds[at] = word.kind;
-        values[at] = word.value;
+        kinds[at] = word.0;
+        values[at] = word.1;
         at += 1;
         left -= 1;
     }

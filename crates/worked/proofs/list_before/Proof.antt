@@ -52,8 +52,8 @@ part-trimmed-end c = search needs
 trimmed-requires : tie.Need-trimmed-requires Inv-loop μ-loop
 trimmed-requires c κs = search needs
 
-words-of-requires : tie.Need-words-of-requires Inv-loop μ-loop
-words-of-requires c κs = search needs
+after-requires : tie.Need-after-requires Inv-loop μ-loop
+after-requires c κs = search needs
 
 returns : tie.Need-returns Inv-loop μ-loop
 returns c = search needs
@@ -77,5 +77,5 @@ list-before-spec =
     part-trimmed-start
     part-trimmed-end
     trimmed-requires
-    words-of-requires
+    after-requires
     returns)

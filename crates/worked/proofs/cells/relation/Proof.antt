@@ -5,10 +5,10 @@ use Rattle.worked.proofs.cells.relation.Statement.{statement}
 use Rattle.worked.proofs.cells.relation.Tie as tie
 
 abbrev Inv-loop : tie.InvT-loop
-Inv-loop level cell list touching₀ i₀ i-end touching i = i ≤ i-end
+Inv-loop level cell list form₀ i₀ i-end form i = i ≤ i-end
 
 abbrev μ-loop : tie.MeasureT-loop
-μ-loop level cell list touching₀ i₀ i-end touching i = i-end - i
+μ-loop level cell list form₀ i₀ i-end form i = i-end - i
 
 loop-holds : tie.Need-loop-holds Inv-loop μ-loop
 loop-holds c = search needs
@@ -43,9 +43,6 @@ loop-again c = search needs
 returns-2 : tie.Need-returns-2 Inv-loop μ-loop
 returns-2 c = search needs
 
-returns-3 : tie.Need-returns-3 Inv-loop μ-loop
-returns-3 c = search needs
-
 pub relation-spec : {M : Type 1} → statement M
 relation-spec =
     tie.close
@@ -62,5 +59,4 @@ relation-spec =
     add-i
     loop-less
     loop-again
-    returns-2
-    returns-3)
+    returns-2)

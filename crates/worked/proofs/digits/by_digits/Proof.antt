@@ -46,11 +46,8 @@ loop-less c = search needs
 loop-again : tie.Need-loop-again Inv-loop μ-loop
 loop-again c = search needs
 
-octant-by-requires : tie.Need-octant-by-requires Inv-loop μ-loop
-octant-by-requires c κs = search needs
-
-with-octant-requires : tie.Need-with-octant-requires Inv-loop μ-loop
-with-octant-requires c κs = search needs
+leaving-requires : tie.Need-leaving-requires Inv-loop μ-loop
+leaving-requires c κs = search needs
 
 returns-3 : tie.Need-returns-3 Inv-loop μ-loop
 returns-3 c = search needs
@@ -73,6 +70,5 @@ by-digits-spec =
     add-i
     loop-less
     loop-again
-    octant-by-requires
-    with-octant-requires
+    leaving-requires
     returns-3)

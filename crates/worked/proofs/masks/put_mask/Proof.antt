@@ -1,23 +1,29 @@
--- `masks::put_mask` is safe and ends. The invariant: `i` is at most the length of the mask. The measure is what is left of the mask. Assumes nothing.
+-- `masks::put_mask` is safe and ends. The invariant: `cell` is at most the number of cells; the measure is what is left of them. Assumes nothing.
 use Prim.Native.Nat.{_≤_, _-_}
 use borrow.Author.Needs.{needs}
 use Rattle.worked.proofs.masks.put_mask.Statement.{statement}
 use Rattle.worked.proofs.masks.put_mask.Tie as tie
 
 abbrev Inv-loop : tie.InvT-loop
-Inv-loop out₀ style mask at₀ i₀ t6 i-end out at i = i ≤ i-end
+Inv-loop out₀ style mask cells at₀ cell₀ t8 out at cell = cell ≤ cells
 
 abbrev μ-loop : tie.MeasureT-loop
-μ-loop out₀ style mask at₀ i₀ t6 i-end out at i = i-end - i
+μ-loop out₀ style mask cells at₀ cell₀ t8 out at cell = cells - cell
+
+cast-cells : tie.Need-cast-cells Inv-loop μ-loop
+cast-cells c = search needs
+
+mul-cells : tie.Need-mul-cells Inv-loop μ-loop
+mul-cells c = search needs
 
 loop-holds : tie.Need-loop-holds Inv-loop μ-loop
 loop-holds c = search needs
 
-put-byte-requires : tie.Need-put-byte-requires Inv-loop μ-loop
-put-byte-requires c κs = search needs
+put-marked-requires : tie.Need-put-marked-requires Inv-loop μ-loop
+put-marked-requires c κs = search needs
 
-add-i : tie.Need-add-i Inv-loop μ-loop
-add-i c = search needs
+add-cell : tie.Need-add-cell Inv-loop μ-loop
+add-cell c = search needs
 
 loop-less : tie.Need-loop-less Inv-loop μ-loop
 loop-less c = search needs
@@ -43,9 +49,11 @@ put-mask-spec =
     (tie.spec
     Inv-loop
     μ-loop
+    cast-cells
+    mul-cells
     loop-holds
-    put-byte-requires
-    add-i
+    put-marked-requires
+    add-cell
     loop-less
     loop-again
     slice-aggregate-text

@@ -5,16 +5,16 @@ use Rattle.worked.proofs.out.form.Statement.{statement}
 use Rattle.worked.proofs.out.form.Tie as tie
 
 abbrev Inv-loop : tie.InvT-loop
-Inv-loop out₀ from format values at₀ used₀ i₀ i-end out at used i = i ≤ i-end
+Inv-loop out₀ from style format values at₀ used₀ i₀ i-end out at used i = i ≤ i-end
 
 abbrev μ-loop : tie.MeasureT-loop
-μ-loop out₀ from format values at₀ used₀ i₀ i-end out at used i = i-end - i
+μ-loop out₀ from style format values at₀ used₀ i₀ i-end out at used i = i-end - i
 
 loop-holds : tie.Need-loop-holds Inv-loop μ-loop
 loop-holds c = search needs
 
-shared-slice-read-form-character : tie.Need-shared-slice-read-form-character Inv-loop μ-loop
-shared-slice-read-form-character c = search needs
+shared-slice-read-character : tie.Need-shared-slice-read-character Inv-loop μ-loop
+shared-slice-read-character c = search needs
 
 value-at-requires : tie.Need-value-at-requires Inv-loop μ-loop
 value-at-requires c κs = search needs
@@ -22,11 +22,8 @@ value-at-requires c κs = search needs
 form-character-requires : tie.Need-form-character-requires Inv-loop μ-loop
 form-character-requires c κs = search needs
 
-shared-slice-read-used-after : tie.Need-shared-slice-read-used-after Inv-loop μ-loop
-shared-slice-read-used-after c = search needs
-
-used-after-requires : tie.Need-used-after-requires Inv-loop μ-loop
-used-after-requires c κs = search needs
+add-used : tie.Need-add-used Inv-loop μ-loop
+add-used c = search needs
 
 add-i : tie.Need-add-i Inv-loop μ-loop
 add-i c = search needs
@@ -47,11 +44,10 @@ form-spec =
     Inv-loop
     μ-loop
     loop-holds
-    shared-slice-read-form-character
+    shared-slice-read-character
     value-at-requires
     form-character-requires
-    shared-slice-read-used-after
-    used-after-requires
+    add-used
     add-i
     loop-less
     loop-again

@@ -32,8 +32,8 @@ returns c = search needs
 returns-2 : tie.Need-returns-2 Inv-loop μ-loop
 returns-2 c = search needs
 
-may-lack-requires : tie.Need-may-lack-requires Inv-loop μ-loop
-may-lack-requires c κs = search needs
+is-list-requires-2 : tie.Need-is-list-requires-2 Inv-loop μ-loop
+is-list-requires-2 c κs = search needs
 
 returns-3 : tie.Need-returns-3 Inv-loop μ-loop
 returns-3 c = search needs
@@ -63,7 +63,7 @@ place-after-spec =
     add-result
     returns
     returns-2
-    may-lack-requires
+    is-list-requires-2
     returns-3
     add-i
     loop-less

@@ -5,10 +5,10 @@ use Rattle.worked.proofs.steps.codes.Statement.{statement}
 use Rattle.worked.proofs.steps.codes.Tie as tie
 
 abbrev Inv-loop : tie.InvT-loop
-Inv-loop out₀ level list at₀ i₀ i-end out at i = (1 ≤ i) × (i ≤ i-end + 1)
+Inv-loop out₀ style list at₀ i₀ i-end out at i = (1 ≤ i) × (i ≤ i-end + 1)
 
 abbrev μ-loop : tie.MeasureT-loop
-μ-loop out₀ level list at₀ i₀ i-end out at i = i-end - i
+μ-loop out₀ style list at₀ i₀ i-end out at i = i-end - i
 
 loop-holds : tie.Need-loop-holds Inv-loop μ-loop
 loop-holds c = search needs
@@ -16,23 +16,26 @@ loop-holds c = search needs
 space-requires : tie.Need-space-requires Inv-loop μ-loop
 space-requires c κs = search needs
 
-sub-put-between : tie.Need-sub-put-between Inv-loop μ-loop
-sub-put-between c = search needs
+sub-code : tie.Need-sub-code Inv-loop μ-loop
+sub-code c = search needs
 
-mul-put-between : tie.Need-mul-put-between Inv-loop μ-loop
-mul-put-between c = search needs
+mul-code : tie.Need-mul-code Inv-loop μ-loop
+mul-code c = search needs
 
-shared-slice-read-put-between : tie.Need-shared-slice-read-put-between Inv-loop μ-loop
-shared-slice-read-put-between c = search needs
+shared-slice-read-code : tie.Need-shared-slice-read-code Inv-loop μ-loop
+shared-slice-read-code c = search needs
 
-mul-put-between-2 : tie.Need-mul-put-between-2 Inv-loop μ-loop
-mul-put-between-2 c = search needs
+mul-code-2 : tie.Need-mul-code-2 Inv-loop μ-loop
+mul-code-2 c = search needs
 
-shared-slice-read-put-between-2 : tie.Need-shared-slice-read-put-between-2 Inv-loop μ-loop
-shared-slice-read-put-between-2 c = search needs
+shared-slice-read-code-2 : tie.Need-shared-slice-read-code-2 Inv-loop μ-loop
+shared-slice-read-code-2 c = search needs
 
-put-between-requires : tie.Need-put-between-requires Inv-loop μ-loop
-put-between-requires c κs = search needs
+code-requires : tie.Need-code-requires Inv-loop μ-loop
+code-requires c κs = search needs
+
+put-requires : tie.Need-put-requires Inv-loop μ-loop
+put-requires c κs = search needs
 
 add-i : tie.Need-add-i Inv-loop μ-loop
 add-i c = search needs
@@ -54,12 +57,13 @@ codes-spec =
     μ-loop
     loop-holds
     space-requires
-    sub-put-between
-    mul-put-between
-    shared-slice-read-put-between
-    mul-put-between-2
-    shared-slice-read-put-between-2
-    put-between-requires
+    sub-code
+    mul-code
+    shared-slice-read-code
+    mul-code-2
+    shared-slice-read-code-2
+    code-requires
+    put-requires
     add-i
     loop-less
     loop-again

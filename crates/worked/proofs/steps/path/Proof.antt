@@ -25,20 +25,11 @@ shared-slice-read-low-byte c = search needs
 low-byte-requires : tie.Need-low-byte-requires Inv-loop μ-loop
 low-byte-requires c κs = search needs
 
-step-along-requires : tie.Need-step-along-requires Inv-loop μ-loop
-step-along-requires c κs = search needs
+step-requires : tie.Need-step-requires Inv-loop μ-loop
+step-requires c κs = search needs
 
-enum-known-to : tie.Need-enum-known-to Inv-loop μ-loop
-enum-known-to c = search needs
-
-cell-requires : tie.Need-cell-requires Inv-loop μ-loop
-cell-requires c κs = search needs
-
-enum-known-n : tie.Need-enum-known-n Inv-loop μ-loop
-enum-known-n c = search needs
-
-refused-requires : tie.Need-refused-requires Inv-loop μ-loop
-refused-requires c κs = search needs
+put-requires : tie.Need-put-requires Inv-loop μ-loop
+put-requires c κs = search needs
 
 returns : tie.Need-returns Inv-loop μ-loop
 returns c = search needs
@@ -66,11 +57,8 @@ path-spec =
     mul-low-byte
     shared-slice-read-low-byte
     low-byte-requires
-    step-along-requires
-    enum-known-to
-    cell-requires
-    enum-known-n
-    refused-requires
+    step-requires
+    put-requires
     returns
     add-i
     loop-less
