@@ -8,19 +8,10 @@ use Rattle.position.proofs.Signed.{minus, minus-fits}
 use Rattle.worked.proofs.answers.signed.Statement.{statement}
 use Rattle.worked.proofs.answers.signed.Tie as tie
 
-cast-size : tie.Need-cast-size
-cast-size c = search needs
-
 sub-result : tie.Need-sub-result
 sub-result c =
     let n = c .before .args .number % 2147483648 in
     rw (toZ-pos w32 n (omega arith), minus n) (record { sfits = minus-fits n (omega arith) })
 
-returns : tie.Need-returns
-returns c = search needs
-
-returns-2 : tie.Need-returns-2
-returns-2 c = search needs
-
 pub signed-spec : {M : Type 1} → statement M
-signed-spec = tie.close (tie.spec cast-size sub-result returns returns-2)
+signed-spec = tie.close (tie.spec (λ c. search needs) sub-result (λ c. search needs) (λ c. search needs))

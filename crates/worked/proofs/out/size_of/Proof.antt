@@ -32,11 +32,5 @@ add-result c = rw (below c) (omega (arith, fits (c .before)))
 cast-result-2 : tie.Need-cast-result-2
 cast-result-2 c = let y = toZ w32 (ofZ w32 (c .before .args .n)) in rw (size-positive y (c .if1 .left)) (tt, omega (arith, natAbs-le y (fits (c .before))))
 
-returns : tie.Need-returns
-returns c = search needs
-
-returns-2 : tie.Need-returns-2
-returns-2 c = search needs
-
 pub size-of-spec : {M : Type 1} → statement M
-size-of-spec = tie.close (tie.spec sub-result cast-below add-result cast-result-2 returns returns-2)
+size-of-spec = tie.close (tie.spec sub-result cast-below add-result cast-result-2 (λ c. search needs) (λ c. search needs))
