@@ -99,7 +99,12 @@ fn judge_answer(
     n: usize,
 ) -> Score {
     if n == 0 || LENGTH < n {
-        print_judged(false, case, b"(cannot be read as a case, or the answer is too long)", expected);
+        print_judged(
+            false,
+            case,
+            b"(cannot be read as a case, or the answer is too long)",
+            expected,
+        );
         return judge::judged(score, b"", b"?");
     }
     let answer = lists::bytes_in(buffer, 0, n);
