@@ -301,11 +301,6 @@ step-back k p c r h e = move-step k (go (step-move k p c r e) h)
     go (over-E {o} {o′} {a} {b} x e z) h = let y : o ≡ west o′ = omega arith in let w : b ≡ 2 ^ k - 1 - a = omega arith in over-W y z w
     go (over-W {o} {o′} {a} {b} {b′} x e z) h = let y : o ≡ east o′ = omega arith in let w : a + b′ + 1 ≡ 2 ^ k = omega arith in over-E y w e
 
--- the codes back of t, l, r, T, E, W are t, r, l, T, W, E
-pub back-runs : map back (0 ∷ 1 ∷ 2 ∷ 5 ∷ 6 ∷ 7 ∷ []) ≡ 0 ∷ 2 ∷ 1 ∷ 5 ∷ 7 ∷ 6 ∷ []
-unfolding back
-back-runs = refl
-
 back-direct : (c : ℕ) → direct c ≡ true → direct (back c) ≡ true
 unfolding direct back
 back-direct = code-cases (λ (c : ℕ). direct c ≡ true → direct (back c) ≡ true)

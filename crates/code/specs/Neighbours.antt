@@ -7,8 +7,8 @@ use mathlib.Core.Option.{Option, none, some}
 use mathlib.Core.Path.{_≡_}
 use lib.ListN.{getD}
 use Rattle.refusal.specs.Answer.{given, refused}
-use Rattle.cell.specs.Cell.{Place, place}
-use Rattle.code.specs.Step.{step, codeTo, stepCall}
+use Rattle.cell.specs.Cell.{place}
+use Rattle.code.specs.Step.{codeTo, stepCall}
 
 -- the code back: t and T are their own, l and r change places, and so do e and w, E and W
 unfoldable pub back : ℕ → ℕ

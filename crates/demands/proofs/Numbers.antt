@@ -1,11 +1,11 @@
 -- Stored numbers: when one is refused, and by which number. Assumes nothing.
-use Prim.Native.Nat.{ℕ, _+_, _<_}
+use Prim.Native.Nat.{ℕ, _+_}
 use mathlib.Core.Path.{_≡_, ap, _∙_}
 use mathlib.Core.List.{List}
 use mathlib.Core.Logic.{_⊎_, inl, inr, ⊎-elim, _↔_}
-use lib.ListN.{drop, getD}
+use lib.ListN.{drop}
 use lib.Seq.{getD-drop}
-use Rattle.refusal.specs.Answer.{Answer, refused}
+use Rattle.refusal.specs.Answer.{refused}
 use Rattle.bitset.specs.Bits.{Bytes}
 use Rattle.varint.specs.Varint.{readCall, EndsEarly, NotInForm}
 use Rattle.varint.proofs.Refusals as numbers

@@ -1,16 +1,16 @@
 -- When a stored number is refused 10, and when 11. Assumes nothing.
-use Prim.Native.Nat.{ℕ, zero, suc, _+_, _-_, _*_, _/_, _%_, _^_, _≤_, _<_}
+use Prim.Native.Nat.{ℕ, zero, suc, _+_, _-_, _*_, _/_, _^_, _≤_, _<_}
 use mathlib.Core.Path.{_≡_, refl, sym, ap, _∙_}
 use mathlib.Core.Bool.{Bool, true, false, not}
 use mathlib.Core.List.{List, [], _∷_}
 use mathlib.Core.Logic.{_⊎_, inl, inr, ⊎-elim, _↔_}
 use native.Mathlib.Nat.{pow-suc}
 use native.Mathlib.Omega.{arith}
-use borrow.Author.Tests.{leb-true, le-leb, lt-leb, leb-false, eqb-true, eqb-false, ne-eqb, not-true, ltb-true, ltb-false}
+use borrow.Author.Tests.{leb-true, leb-false, eqb-true, eqb-false, ne-eqb, not-true, ltb-true, ltb-false}
 use lib.Dec.{leb, eqb, ltb}
 use lib.ListN.{length, drop, getD}
-use Rattle.refusal.specs.Answer.{Answer, given, refused, Test, _when_, inOrder, First}
-use Rattle.refusal.proofs.Answers.{given≢refused, refused-same, refuses, first}
+use Rattle.refusal.specs.Answer.{given, refused, Test, _when_, First}
+use Rattle.refusal.proofs.Answers.{refused-same, refuses, first}
 use Rattle.varint.specs.Varint.{groups, numeral, more, valued, inForm, readCall, HighBits, EndsEarly, groupsSay, OutOfForm, NotInForm}
 use Rattle.varint.proofs.Groups.{low-or-high, groups-last, groups-more, valued-last, valued-more}
 use Rattle.varint.proofs.Laws.{numeral-within}
@@ -64,9 +64,6 @@ small-drop (b ∷ bs) d i = d (suc i)
 next-is : (bs : List ℕ) (j : ℕ) → getD (drop 1 bs) j 0 ≡ getD bs (suc j) 0
 next-is [] j = refl
 next-is (b ∷ bs) j = refl
-
-high-drop : (bs : List ℕ) (j : ℕ) → HighBits (suc j) bs → HighBits j (drop 1 bs)
-high-drop bs j g i l = rw (next-is bs i) (g (suc i) (omega arith))
 
 -- groups with a last one above 0 say at least 1
 say-some : (j : ℕ) (bs : List ℕ) → 1 ≤ getD bs j 0 → 1 ≤ groupsSay j bs
