@@ -34,6 +34,12 @@ ready k m a out work e =
       rings = ltb-false maxRings m (t .1 .1 .1 .1 .0);
     }
 
+-- so they are where the tests answer that none refuses
+pub rings-ready : (k m : ℕ) (a out work : List ℕ) (r : Outcome) → r ≡ outcome.Done → saidOutcome r ≡ inOrder (ringTests k m a out work) done →
+    (k ≤ maxMaskLevel) × (length a ≡ 4 ^ k) × (length out ≡ 4 ^ k) × (length work ≡ 4 ^ k)
+rings-ready k m a out work r e h =
+    let t = ready k m a out work (sym (ap saidOutcome e) ∙ h) in (t .level, t .read, t .written, t .working)
+
 -- a call that its tests refuse leaves both slices
 pub rings-refused : (k m : ℕ) (a out work : List ℕ) (after : List ℕ × List ℕ) (r : Outcome) (n : ℕ) →
     r ≡ outcome.Refused n → saidOutcome r ≡ inOrder (ringTests k m a out work) done →
@@ -41,10 +47,11 @@ pub rings-refused : (k m : ℕ) (a out work : List ℕ) (after : List ℕ × Lis
 rings-refused k m a out work after r n e h = lent-refused (inOrder (ringTests k m a out work) done) (out, work) after n (sym (ap saidOutcome e) ∙ h)
 
 -- and any other writes them
-pub rings-done : (k m : ℕ) (a out work o w o′ w′ : List ℕ) → given done ≡ inOrder (ringTests k m a out work) done → o ≡ o′ → w ≡ w′ →
-    (given done, (o, w)) ≡ lending {S = List ℕ × List ℕ} (inOrder (ringTests k m a out work) done) (out, work) (o′, w′)
-rings-done k m a out work o w o′ w′ h p q =
-    ap₂ (λ (x y : List ℕ). (given done, (x, y))) p q ∙ lent-given (inOrder (ringTests k m a out work) done) (out, work) (o′, w′) done h
+pub rings-done : (k m : ℕ) (a out work o w o′ w′ : List ℕ) (r : Outcome) → r ≡ outcome.Done → saidOutcome r ≡ inOrder (ringTests k m a out work) done →
+    o ≡ o′ → w ≡ w′ → (given done, (o, w)) ≡ lending {S = List ℕ × List ℕ} (inOrder (ringTests k m a out work) done) (out, work) (o′, w′)
+rings-done k m a out work o w o′ w′ r e h p q =
+    ap₂ (λ (x y : List ℕ). (given done, (x, y))) p q
+    ∙ lent-given (inOrder (ringTests k m a out work) done) (out, work) (o′, w′) done (sym (ap saidOutcome e) ∙ h)
 
 -- what the two calls write where they are not refused
 pub grown-bytes : (k m : ℕ) (a out work : List ℕ) → growCall k m a out work .0 ≡ given done →

@@ -58,9 +58,7 @@ complement-spec =
     loop-holds
     (λ c. omega arith)
     sub-mask
-    (λ c. omega arith)
-    (λ c. omega arith)
-    (λ c. omega arith)
+    (λ c. omega arith) (λ c. omega arith) (λ c. omega arith)
     loop-again
     same-length
     returns)

@@ -64,13 +64,10 @@ pub ascend-spec : {M : Type 1} → statement M
 ascend-spec =
     tie.close
     (tie.spec
-    (λ c. search needs)
-    (λ c. search needs)
-    (λ c. search needs)
+    (λ c. search needs) (λ c. search needs) (λ c. search needs)
     sub-all
     (λ c κs. search needs)
     sub-crossed
-    (λ c. search needs)
-    (λ c. search needs)
+    (λ c. search needs) (λ c. search needs)
     join-requires
     returns)

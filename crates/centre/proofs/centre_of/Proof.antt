@@ -38,8 +38,7 @@ pub centre-of-spec : {M : Type 1} → statement M
 centre-of-spec =
     tie.close
     (tie.spec
-    (λ c κs. search needs)
-    (λ c. search needs)
+    (λ c κs. search needs) (λ c. search needs)
     centre-at-requires
     (λ c. search needs)
     returns

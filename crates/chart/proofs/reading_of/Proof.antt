@@ -66,10 +66,7 @@ reading-of-spec =
     returns
     (λ c κs. search needs)
     returns-2
-    (λ c κs. search needs)
-    (λ c. search needs)
-    (λ c. search needs)
-    (λ c. search needs)
+    (λ c κs. search needs) (λ c. search needs) (λ c. search needs) (λ c. search needs)
     shared-slice-read-reading
     shared-slice-read-reading-2
     (λ c κs. search needs)

@@ -91,8 +91,7 @@ more-rings-spec =
     loop-holds
     ring-requires
     ring-requires-2
-    (λ c. search needs)
-    (λ c. omega arith)
+    (λ c. search needs) (λ c. omega arith)
     loop-again
     ring-requires-3
     returns

@@ -54,7 +54,6 @@ sum-ones-spec =
     loop-holds
     (λ c. omega arith)
     add-sum
-    (λ c. omega arith)
-    (λ c. omega arith)
+    (λ c. omega arith) (λ c. omega arith)
     loop-again
     returns)

@@ -87,15 +87,11 @@ cell-at-spec =
     tie.close
     (tie.spec
     returns
-    (λ c κs. search needs)
-    (λ c κs. search needs)
+    (λ c κs. search needs) (λ c κs. search needs)
     returns-2
     returns-3
     octant-of-requires
     from-west-requires
-    (λ c κs. omega arith)
-    (λ c κs. search needs)
-    (λ c. search needs)
-    (λ c. search needs)
+    (λ c κs. omega arith) (λ c κs. search needs) (λ c. search needs) (λ c. search needs)
     returns-4
     returns-5)

@@ -67,7 +67,6 @@ put-pieces-spec =
     (λ c κs. search needs)
     loop-holds
     put-piece-requires
-    (λ c. omega arith)
-    (λ c. omega arith)
+    (λ c. omega arith) (λ c. omega arith)
     loop-again
     returns)

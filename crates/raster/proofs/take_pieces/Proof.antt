@@ -78,12 +78,10 @@ take-pieces-spec =
     (tie.spec
     Inv-loop
     μ-loop
-    (λ c κs. search needs)
-    (λ c κs. omega arith)
+    (λ c κs. search needs) (λ c κs. omega arith)
     loop-holds
     take-piece-requires
-    (λ c. omega arith)
-    (λ c. omega arith)
+    (λ c. omega arith) (λ c. omega arith)
     loop-again
     same-length
     returns)

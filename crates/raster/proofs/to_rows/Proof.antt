@@ -44,8 +44,7 @@ pub to-rows-spec : {M : Type 1} → statement M
 to-rows-spec =
     tie.close
     (tie.spec
-    (λ c κs. search needs)
-    (λ c. search needs)
+    (λ c κs. search needs) (λ c. search needs)
     put-pieces-requires
     (λ c. search needs)
     returns

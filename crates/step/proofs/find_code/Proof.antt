@@ -50,7 +50,6 @@ find-code-spec =
     loop-holds
     joins-requires
     returns
-    (λ c. omega arith)
-    (λ c. omega arith)
+    (λ c. omega arith) (λ c. omega arith)
     loop-again
     returns-2)

@@ -17,21 +17,6 @@ room : (c : tie.Start) → (c .args .row + c .args .col + 2 ≤ 2 ^ c .args .lev
 unfolding span
 room c = (c .pre .1 .1, rows-bound (c .args .level) (c .pre .0))
 
-add-end : tie.Need-add-end
-add-end c = omega (arith, room c)
-
-add-end-2 : tie.Need-add-end-2
-add-end-2 c = omega (arith, room c)
-
-add-found-if : tie.Need-add-found-if
-add-found-if c = omega (arith, room (c .before))
-
-add-found-if-2 : tie.Need-add-found-if-2
-add-found-if-2 c = omega (arith, room (c .before))
-
-add-found-if-3 : tie.Need-add-found-if-3
-add-found-if-3 c = omega (arith, room (c .before))
-
 returns : tie.Need-returns
 unfolding step steps span
 returns c =
@@ -78,17 +63,14 @@ from-down-spec =
     tie.close
     (tie.spec
     (λ c. search needs)
-    add-end
-    add-end-2
-    add-found-if
+    (λ c. omega (arith, room c))
+    (λ c. omega (arith, room c))
+    (λ c. omega (arith, room (c .before)))
+    (λ c κs. search needs) (λ c κs. search needs)
+    (λ c. omega (arith, room (c .before)))
     (λ c κs. search needs)
-    (λ c κs. search needs)
-    add-found-if-2
-    (λ c κs. search needs)
-    add-found-if-3
-    (λ c κs. search needs)
-    (λ c κs. search needs)
-    (λ c κs. search needs)
+    (λ c. omega (arith, room (c .before)))
+    (λ c κs. search needs) (λ c κs. search needs) (λ c κs. search needs)
     returns
     returns-2
     returns-3

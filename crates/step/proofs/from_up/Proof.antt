@@ -17,15 +17,6 @@ room : (c : tie.Start) → (c .args .row + c .args .col + 1 ≤ 2 ^ c .args .lev
 unfolding span
 room c = (c .pre .1 .1, rows-bound (c .args .level) (c .pre .0))
 
-add-end : tie.Need-add-end
-add-end c = omega (arith, room c)
-
-add-end-2 : tie.Need-add-end-2
-add-end-2 c = omega (arith, room c)
-
-add-found-if : tie.Need-add-found-if
-add-found-if c = omega (arith, room (c .before))
-
 sub-found-if : tie.Need-sub-found-if
 sub-found-if c = let s = c .before in rw (rows-shifted (s .args .level) (s .pre .0)) (omega (arith, room s))
 
@@ -92,26 +83,12 @@ from-up-spec =
     tie.close
     (tie.spec
     (λ c. search needs)
-    add-end
-    add-end-2
-    (λ c. search needs)
-    (λ c. search needs)
-    (λ c. search needs)
-    (λ c. search needs)
-    (λ c. search needs)
-    (λ c. search needs)
-    (λ c. search needs)
-    (λ c κs. search needs)
-    (λ c κs. search needs)
-    (λ c κs. search needs)
-    (λ c κs. search needs)
-    (λ c κs. search needs)
-    add-found-if
-    (λ c κs. search needs)
-    (λ c κs. search needs)
-    (λ c κs. search needs)
-    (λ c κs. search needs)
-    (λ c κs. search needs)
+    (λ c. omega (arith, room c))
+    (λ c. omega (arith, room c))
+    (λ c. search needs) (λ c. search needs) (λ c. search needs) (λ c. search needs) (λ c. search needs) (λ c. search needs)
+    (λ c. search needs) (λ c κs. search needs) (λ c κs. search needs) (λ c κs. search needs) (λ c κs. search needs) (λ c κs. search needs)
+    (λ c. omega (arith, room (c .before)))
+    (λ c κs. search needs) (λ c κs. search needs) (λ c κs. search needs) (λ c κs. search needs) (λ c κs. search needs)
     sub-found-if
     sub-found-if-2
     (λ c κs. search needs)

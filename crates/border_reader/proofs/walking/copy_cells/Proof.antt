@@ -48,12 +48,7 @@ copy-cells-spec =
     Inv-loop
     μ-loop
     loop-holds
-    (λ c. search needs)
-    (λ c. omega arith)
-    (λ c. search needs)
-    (λ c. omega arith)
-    (λ c. search needs)
-    (λ c. omega arith)
+    (λ c. search needs) (λ c. omega arith) (λ c. search needs) (λ c. omega arith) (λ c. search needs) (λ c. omega arith)
     loop-again
     same-length
     returns)

@@ -65,12 +65,7 @@ pack-spec =
     cast-held
     (λ c. omega arith)
     add-held
-    (λ c. omega arith)
-    (λ c. omega arith)
-    (λ c. omega arith)
-    (λ c. omega arith)
-    (λ c. omega arith)
-    (λ c. omega arith)
+    (λ c. omega arith) (λ c. omega arith) (λ c. omega arith) (λ c. omega arith) (λ c. omega arith) (λ c. omega arith)
     loop-again
     cast-out-2
     (λ c. omega arith)

@@ -66,20 +66,11 @@ find-codes-spec =
     Inv-loop
     μ-loop
     loop-holds
-    (λ c. search needs)
-    (λ c. search needs)
-    (λ c. search needs)
-    (λ c. search needs)
-    (λ c. search needs)
-    (λ c. search needs)
-    (λ c κs. search needs)
-    (λ c. search needs)
+    (λ c. search needs) (λ c. search needs) (λ c. search needs) (λ c. search needs) (λ c. search needs) (λ c. search needs)
+    (λ c κs. search needs) (λ c. search needs)
     same-length
     returns
-    (λ c. search needs)
-    (λ c. omega arith)
-    (λ c. search needs)
-    (λ c. omega arith)
+    (λ c. search needs) (λ c. omega arith) (λ c. search needs) (λ c. omega arith)
     loop-again
     same-length-2
     returns-2)

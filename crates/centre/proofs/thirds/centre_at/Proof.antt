@@ -27,9 +27,7 @@ pub centre-at-spec : {M : Type 1} → statement M
 centre-at-spec =
     tie.close
     (tie.spec
-    (λ c. search needs)
-    (λ c. search needs)
-    (λ c. search needs)
+    (λ c. search needs) (λ c. search needs) (λ c. search needs)
     centre-by-requires
     (λ c. search needs)
     centre-by-requires-2

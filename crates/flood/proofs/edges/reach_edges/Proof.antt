@@ -78,12 +78,8 @@ reach-edges-spec =
     (λ c. search needs)
     sub-spot-of
     sub-spot-of-2
-    (λ c κs. search needs)
-    (λ c κs. search needs)
-    (λ c κs. search needs)
+    (λ c κs. search needs) (λ c κs. search needs) (λ c κs. search needs)
     reach-pair-requires
-    (λ c κs. search needs)
-    (λ c. search needs)
-    (λ c κs. search needs)
+    (λ c κs. search needs) (λ c. search needs) (λ c κs. search needs)
     reach-pair-requires-2
     returns)

@@ -46,7 +46,6 @@ reach-over-spec =
     μ-loop
     loop-holds
     reach-octant-requires
-    (λ c. omega arith)
-    (λ c. omega arith)
+    (λ c. omega arith) (λ c. omega arith)
     loop-again
     returns)

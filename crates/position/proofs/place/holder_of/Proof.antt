@@ -63,7 +63,6 @@ holder-of-spec =
     share-of-requires
     cast-row
     cast-col
-    (λ c. search needs)
-    (λ c. search needs)
+    (λ c. search needs) (λ c. search needs)
     returns
     returns-2)

@@ -40,8 +40,6 @@ join-edge-spec =
     μ-loop
     (λ c κs. search needs)
     loop-holds
-    (λ c κs. omega arith)
-    (λ c. omega arith)
-    (λ c. omega arith)
+    (λ c κs. omega arith) (λ c. omega arith) (λ c. omega arith)
     loop-again
     returns)

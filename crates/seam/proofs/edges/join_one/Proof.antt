@@ -141,11 +141,9 @@ pub join-one-spec : {M : Type 1} → statement M
 join-one-spec =
     tie.close
     (tie.spec
-    (λ c. search needs)
-    (λ c κs. search needs)
+    (λ c. search needs) (λ c κs. search needs)
     sub-spot-of
-    (λ c κs. search needs)
-    (λ c κs. search needs)
+    (λ c κs. search needs) (λ c κs. search needs)
     join-bits-requires
     (λ c. search needs)
     mul-octant
@@ -160,10 +158,7 @@ join-one-spec =
     add-spot-of-2
     (λ c κs. search needs)
     join-bits-requires-3
-    (λ c. search needs)
-    (λ c κs. search needs)
-    (λ c. search needs)
-    (λ c κs. search needs)
+    (λ c. search needs) (λ c κs. search needs) (λ c. search needs) (λ c κs. search needs)
     join-bits-requires-4
     returns
     returns-2
