@@ -1,5 +1,5 @@
-"""Draws the eight octants on the globe, seen from above 0° and from above 180° on the equator, with
-the cells of level 2 and where T, E and W lead. Cells, centres and steps are the library's."""
+"""Draws the eight octants on the globe, seen from above 0° and from above 180° on the equator,
+with the cells of level 2 and where T, E and W lead. Cells, centres and steps are the library's."""
 
 from __future__ import annotations
 
@@ -98,7 +98,7 @@ def name(longitude: int) -> str:
 
 
 def position(octant: int, t: float, r: float) -> Tuple[float, float]:
-    """Latitude and longitude of a point with T and R in an octant (docs/RULES.md, 2, turned round)."""
+    """Latitude and longitude of the point T, R of an octant (docs/RULES.md, 2, turned round)."""
     south = -1 if octant >= 4 else 1
     turn = 90 * r / (N - t) if t < N else 0
     return south * 90 * t / N, BEGINNINGS[octant % 4] + turn
@@ -124,13 +124,13 @@ def draw() -> str:
     discs = [Disc(MIDDLES[0], 0, [3, 0, 7, 4]), Disc(MIDDLES[1], 180, [1, 2, 5, 6])]
     title = "The eight octants on the globe"
     words = (
-        "Cells of level 2, up cells white and down cells grey. T crosses the equator, E and W cross a "
-        "meridian; E is drawn in the north and W in the south."
+        "Cells of level 2, up cells white and down cells grey. T crosses the equator, E and W cross "
+        "a meridian; E is drawn in the north and W in the south."
     )
     desc = (
-        "Two discs. The first is the globe seen from above 0 degrees on the equator, with octants 3 and "
-        "0 in the north and 7 and 4 in the south. The second is seen from above 180 degrees, with 1 and "
-        "2 in the north and 5 and 6 in the south. Arrows show where the codes T, E and W lead."
+        "Two discs. The first is the globe seen from above 0 degrees on the equator, with octants 3 "
+        "and 0 in the north and 7 and 4 in the south. The second is seen from above 180 degrees, with "
+        "1 and 2 in the north and 5 and 6 in the south. Arrows show where the codes T, E and W lead."
     )
     body = [
         text((34, 44), title, 22, BOLD),

@@ -1,5 +1,6 @@
 """Draws octant 0 at level 2 in four panels: its cells with their digits and numbers, and the steps
-from an up cell, from a down cell and from two corner cells. Cells, places and steps are the library's."""
+from an up cell, from a down cell and from two corner cells. Cells, places and steps are those of the
+library."""
 
 from __future__ import annotations
 
@@ -106,7 +107,8 @@ def steps(panel: Panel, starts: List[int]) -> None:
     for cell in OCTANT:
         if cell not in named:
             x, y = panel.middle(cell)
-            panel.drawn.append(text((x, y + 18), digits(LEVEL, cell), 12, f'{MIDDLE} fill="{GREY}"'))
+            style = f'{MIDDLE} fill="{GREY}"'
+            panel.drawn.append(text((x, y + 18), digits(LEVEL, cell), 12, style))
     for cell, reached in found.items():
         panel.drawn.append(circle(panel.middle(cell), 4, f'fill="{INK}"'))
         for code, to in reached.items():
@@ -128,7 +130,7 @@ def draw() -> str:
     for panel, starts in zip(panels[1:], ([up], [down], [west, east])):
         steps(panel, starts)
     body = [text((34, 44), "Octant 0 at level 2", 22, BOLD)]
-    words = "Up cells are white, down cells grey. Arrows lead to the cell that has the code's letter."
+    words = "Up cells are white, down cells grey. An arrow leads to the cell with the code's letter."
     body.append(text((34, 68), words, 14, f'fill="{GREY}"'))
     desc = (
         "Four triangles, each octant 0 cut into sixteen cells in four rows from the equator to the "

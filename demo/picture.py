@@ -1,5 +1,5 @@
-"""Draws the triangles around 90° W, a panel for each way of masking the cloud: fresh, carried and gap
-with the ages in the cells. The meridian is upright and parallels are level: across is R, down is T
+"""Draws the triangles around 90° W, a panel for each way of masking the cloud: fresh, carried and
+gap with the ages in the cells. The meridian is upright and parallels are level: across is R, down is T
 (docs/RULES.md, 2)."""
 
 from __future__ import annotations
@@ -68,7 +68,7 @@ SHOWN = [cell for cell in PLACES if shown(cell)]
 
 
 def triangle(points: List[Point], said: Reading, false: bool, clouded: bool) -> List[str]:
-    """A cell with its age. Carried cells are dotted, so that grey print tells them from fresh ones."""
+    """A cell with its age. Carried cells are dotted, to be told from fresh ones in grey print."""
     drawn = [polygon(points, f'fill="{FILL[said.kind]}" stroke="#fff" stroke-width="1.4"')]
     if said.kind is Kind.CARRIED:
         drawn.append(polygon(points, 'fill="url(#carried)"'))
@@ -154,8 +154,8 @@ def legend(lefts: List[float]) -> List[str]:
 
 STORY = (
     "One cloud, three masks of it. Under the thin edge of the cloud, two cells wide, the satellite",
-    f"sees no sea, and the provider has filled the pass with {PATCH} °C, the value of last month’s warm",
-    "patch. The numbers are the days since a cell was last seen. Synthetic data.",
+    f"sees no sea, and the provider has filled the pass with {PATCH} °C, the value of last month’s",
+    "warm patch. The numbers are the days since a cell was last seen. Synthetic data.",
 )
 
 
@@ -169,7 +169,8 @@ def draw(panels: Dict[str, Panel], cloud: bytearray) -> str:
     body += [*parallels(), *legend(lefts)]
     title = "The chart around 90° W, with three masks of the same cloud"
     desc = (
-        f"{' '.join(STORY)} In the first two panels cells east of the meridian call {PATCH} °C fresh. "
-        f"In the third, with a mask grown by {RINGS} rings over the meridian, they are carried or a gap."
+        f"{' '.join(STORY)} In the first two panels cells east of the meridian call {PATCH} °C "
+        f"fresh. In the third, with a mask grown by {RINGS} rings over the meridian, they are carried "
+        "or a gap."
     )
     return document((WIDTH, HEIGHT), title, desc, PATTERNS, body)

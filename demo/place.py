@@ -1,4 +1,5 @@
-"""Where a cell lies in its octant (docs/RULES.md, 1.4), found from the centre that the library gives."""
+"""Where a cell lies in its octant (docs/RULES.md, 1.4), found from the centre that the library
+gives, and where its codes lead."""
 
 from __future__ import annotations
 

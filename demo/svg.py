@@ -1,5 +1,5 @@
-"""SVG as text: the same bytes for the same drawing. Colours are Okabe and Ito's, which a colour-blind
-reader can tell apart; what matters is told by shape or hatching too, so it survives grey print."""
+"""SVG as text: the same bytes for the same drawing. Where colours mean something, a shape, a pattern
+or a word says it too, for grey print and for colour-blind readers."""
 
 from __future__ import annotations
 

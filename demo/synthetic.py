@@ -1,5 +1,5 @@
-"""The synthetic data of the demonstration: a sea around 90° W in the south, a cloud whose edge is that
-meridian, and the satellite passes of a month. Nothing here was measured."""
+"""The synthetic data of the demonstration: a sea around 90° W in the south, a cloud whose edge is
+that meridian, and the satellite passes of a month. Nothing here was measured."""
 
 from __future__ import annotations
 
@@ -65,8 +65,8 @@ def sea(day: date) -> array[float]:
 
 def morning_pass(day: date) -> array[float]:
     """What the satellite delivers: the sea, and where the cloud is the cold of its top. Under the
-    thin edge of the cloud, two cells wide and not in the cloud mask, it sees no sea, and the provider
-    fills the pass with the value of last month's warm patch."""
+    thin edge of the cloud, two cells wide and not in the cloud mask, it sees no sea, and the
+    provider fills the pass with the value of last month's warm patch."""
     temperatures, thick = sea(day), cloud(day)
     thin = ticklocust.grow(LEVEL, RINGS, thick)
     for cell in range(CELLS):

@@ -54,16 +54,16 @@ def level_table() -> None:
         whole = 4 * pi * levels.RADIUS**2
         check(isclose(8 * octant, whole, rel_tol=1e-8), f"the areas of level {level} don't add up")
         areas = [up for up, _ in rows] + [down for _, down in rows[:-1]]
-        check(min(areas) == rows[0][0], f"level {level}: the up cells of row 0 are not the smallest")
+        check(min(areas) == rows[0][0], f"level {level}: up cells of row 0 are not the smallest")
         check(max(areas) == rows[-1][0], f"level {level}: the cell at the pole is not the largest")
 
 
 def citations() -> int:
     """Sections are cited as docs/RULES.md, 7 or docs/RULES.md, 1.5."""
     headings = set(re.findall(r"^##+ (\d+(?:\.\d+)?)\.? ", RULES, re.M))
-    files = subprocess.run(["git", "ls-files"], cwd=root, check=True, capture_output=True, text=True)
+    files = subprocess.check_output(["git", "ls-files"], cwd=root, text=True).split()
     cited = 0
-    for name in files.stdout.split():
+    for name in files:
         if name.endswith(".svg") or not (root / name).is_file():
             continue
         for found in CITED.findall((root / name).read_text(encoding="utf-8", errors="replace")):
