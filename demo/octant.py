@@ -1,6 +1,6 @@
 """Draws octant 0 at level 2 in four panels: its cells with their digits and numbers, and the steps
-from an up cell, from a down cell and from two corner cells. Cells, places and steps are those of the
-library."""
+from an up cell, from a down cell and from two corner cells. Cells, places and steps are the
+library's."""
 
 from __future__ import annotations
 
