@@ -1,17 +1,17 @@
-"""Replays a month on made data with three masks of cloud, prints what each chart says just east of
-ninety west, and draws the last morning:  story.py PICTURE"""
+"""Replays a month on synthetic data with three masks of cloud, prints what each chart says just
+east of 90° W, and draws the last morning:  story.py PICTURE"""
 
 from __future__ import annotations
 
 import sys
 from array import array
 from datetime import date
-from typing import Callable, Dict
+from typing import Callable, NamedTuple
 
 import ticklocust
-from made import CELLS, DAYS, LEVEL, LIMIT, POSITION, RINGS, SEA, TODAY
-from made import cloud, morning_pass, sea
-from picture import SHOWN, draw
+from picture import SHOWN, Panel, draw, words
+from synthetic import CELLS, DAYS, LEVEL, LIMIT, PATCH, POSITION, RINGS, SEA, TODAY
+from synthetic import cloud, morning_pass, sea
 from ticklocust import Kind, Reading
 
 Grow = Callable[[bytearray], bytearray]
@@ -22,7 +22,7 @@ def ungrown(mask: bytearray) -> bytearray:
 
 
 def octant_by_octant(mask: bytearray) -> bytearray:
-    """As it used to be: each octant's part is grown by itself and cut off at the octant's edge."""
+    """The mistake: each octant's part is grown by itself and cut off at the edge of the octant."""
     octant = len(mask) // 8
     out = bytearray(len(mask))
     for start in range(0, len(mask), octant):
@@ -37,10 +37,17 @@ def by_ticklocust(mask: bytearray) -> bytearray:
     return ticklocust.grow(LEVEL, RINGS, mask)
 
 
-WAYS: Dict[str, Grow] = {
-    "Mask not grown": ungrown,
-    "Grown octant by octant": octant_by_octant,
-    "Grown by Ticklocust": by_ticklocust,
+class Way(NamedTuple):
+    """A way of masking the cloud, with a word on it for the picture."""
+
+    how: str
+    grow: Grow
+
+
+WAYS = {
+    "Mask not grown": Way("0 rings", ungrown),
+    "Grown octant by octant": Way(f"{RINGS} rings, cut off at the meridian", octant_by_octant),
+    "Grown by Ticklocust": Way(f"{RINGS} rings, over the meridian", by_ticklocust),
 }
 
 
@@ -59,27 +66,28 @@ class Chart:
 
 
 def false(said: Reading, true: float) -> bool:
-    """Whether a reading says fresh of what is not so."""
+    """Whether a reading calls a temperature fresh that isn't the true one."""
     return said.kind is Kind.FRESH and said.temperature != true
 
 
 BEFORE = f"""\
-A month at ninety west. The data are made: a sea, a cloud, a satellite's passes. The charts are not:
-they are kept by the library's calls, level {LEVEL}, {CELLS:,} cells.
+A month at 90 W. The data are synthetic: a sea, a cloud, a satellite's passes. The charts are not:
+they are kept by the library's calls, at level {LEVEL}, with {CELLS:,} cells.
 
-14 March: a warm patch of 21.0 degrees is seen on both sides of the meridian 90 W. The next day it is
-gone, the sea is {SEA} everywhere, and a bank of cloud lies west of 90 W for the rest of the month. Its
-edge is the meridian. Its thin edge reaches two cells past the mask on every side, and there the
-passes hold no sea: they hold last month's 21.0.
+14 March: a warm patch of {PATCH} °C is seen on both sides of the meridian 90 W. The next day it is
+gone, the sea is {SEA} °C everywhere, and a bank of cloud lies west of 90 W for the rest of the month.
+Its edge is the meridian. Its thin edge reaches two cells past the mask on every side. There the
+satellite sees no sea, and the provider has filled the passes with {PATCH} °C, the value of last
+month's patch.
 
-What the chart says at 27.6 S, 89.7 W, just east of ninety west (carried at most {LIMIT} days), where
-the cloud mask is not grown, grown by {RINGS} rings octant by octant as it used to be, and grown by
-{RINGS} rings by Ticklocust:
+What the chart says at 27.6 S, 89.7 W, just east of 90 W (temperatures are carried for at most
+{LIMIT} days): with a cloud mask that is not grown, with one grown by {RINGS} rings in each octant by
+itself, and with one grown by {RINGS} rings by Ticklocust.
 """
 
 
 def main(picture: str) -> None:
-    charts = {name: Chart(grow) for name, grow in WAYS.items()}
+    charts = {name: Chart(way.grow) for name, way in WAYS.items()}
     lies = dict.fromkeys(charts, 0)
     print(BEFORE)
     print(row("", list(charts)), end="\n\n")
@@ -90,19 +98,20 @@ def main(picture: str) -> None:
             chart.take(news, mask)
             reading = chart.says(POSITION)
             lies[name] += false(reading, true)
-            said.append(f"{reading}  (false)" if false(reading, true) else str(reading))
+            said.append(words(reading) + ("  (false)" if false(reading, true) else ""))
         print(row(date_name(day), said))
-    print("\nDays on which 21.0 was called fresh while the sea was 16.0:")
+    print(f"\nDays on which {PATCH} °C was called fresh while the sea was {SEA} °C:")
     for name, count in lies.items():
         print(f"  {name:24}{count:2} of {len(DAYS) - 1}")
-
-    panels = {}
-    for name, chart in charts.items():
-        readings = {cell: chart.says(cell) for cell in SHOWN}
-        panels[name] = {cell: (said, false(said, SEA)) for cell, said in readings.items()}
     with open(picture, "w", encoding="utf-8", newline="\n") as file:
-        file.write(draw(panels, cloud(TODAY)))
+        file.write(draw({name: panel(name, charts[name]) for name in charts}, cloud(TODAY)))
     print(f"\nThe charts of {date_name(TODAY)} are drawn in {picture}")
+
+
+def panel(name: str, chart: Chart) -> Panel:
+    readings = {cell: chart.says(cell) for cell in SHOWN}
+    cells = {cell: (said, false(said, SEA)) for cell, said in readings.items()}
+    return Panel(name, WAYS[name].how, cells)
 
 
 def row(name: str, words: list[str]) -> str:

@@ -4,8 +4,8 @@
 
    Every function returns 0 when the call is accepted, else the number of its refusal. Results are
    written through pointers, and only when the call is accepted: a refused call leaves every slice
-   and every result as it was. A slice is a pointer and a number of elements. The rules are those of
-   document 01; each function names its section, and lists its refusals in the order in which they
+   and every result as it was. A slice is a pointer and a number of elements. The rules are in
+   docs/RULES.md; each function names its section, and lists its refusals in the order in which they
    are tested. The functions are proved to follow these rules for every call that meets the
    requirements below, in the default floating-point mode and with enough stack. The declarations in
    this file are written by hand; no proof covers them.
@@ -51,7 +51,7 @@
 extern "C" {
 #endif
 
-/* What a function returns (document 01, "Refused calls"): one number for each refusal. */
+/* What a function returns (docs/RULES.md, 9): one number for each refusal. */
 enum ticklocust_refusal {
     TICKLOCUST_ACCEPTED = 0,
     TICKLOCUST_REFUSED_LEVEL = 1,     /* level above its bound */
@@ -70,7 +70,7 @@ enum ticklocust_refusal {
     TICKLOCUST_REFUSED_REST = 12      /* pad bits not zero, or bytes left over */
 };
 
-/* The kinds of a reading (document 01, "Charts and ages"). */
+/* The kinds of a reading (docs/RULES.md, 7). */
 enum ticklocust_kind { TICKLOCUST_FRESH = 0, TICKLOCUST_CARRIED = 1, TICKLOCUST_GAP = 2 };
 
 /* The bounds. */
@@ -87,32 +87,32 @@ enum ticklocust_bound {
    ticklocust_within when every cell of a is in b. */
 #define TICKLOCUST_NO_CELL UINT32_C(4294967295)
 
-/* The cell at a position ("Position to cell"). Latitude -90,000,000 to 90,000,000 and longitude
+/* The cell at a position (docs/RULES.md, 2). Latitude -90,000,000 to 90,000,000 and longitude
    -180,000,000 to 179,999,999, in millionths of a degree; level 0 to 14.
    Refused: 1, 2, 3. Written: *cell. */
 uint32_t ticklocust_cell_at(uint32_t level, int32_t latitude, int32_t longitude, uint32_t *cell);
 
-/* The centre of a cell ("Cell to centre"), in millionths of a degree. Level 0 to 14.
+/* The centre of a cell (docs/RULES.md, 3), in millionths of a degree. Level 0 to 14.
    Refused: 1, 4. Written: *latitude, *longitude. */
 uint32_t ticklocust_centre(uint32_t level, uint32_t cell, int32_t *latitude, int32_t *longitude);
 
-/* The cell that a code leads to ("Steps and codes"). Codes 0 to 7 are t, l, r, e, w, T, E, W; level
+/* The cell that a code leads to (docs/RULES.md, 4). Codes 0 to 7 are t, l, r, e, w, T, E, W; level
    0 to 14.
    Refused: 1, 4, 7. Written: *to. */
 uint32_t ticklocust_step(uint32_t level, uint32_t cell, uint32_t code, uint32_t *to);
 
-/* The code that leads from one cell to another ("Steps and codes"). Level 0 to 14.
+/* The code that leads from one cell to another (docs/RULES.md, 4). Level 0 to 14.
    Refused: 1, 4 (either cell), 7. Written: *code. */
 uint32_t ticklocust_code(uint32_t level, uint32_t from, uint32_t to, uint32_t *code);
 
-/* The cells that touch a cell ("Corners and touching"), in ascending order. cells_len is 12; level
+/* The cells that touch a cell (docs/RULES.md, 5), in ascending order. cells_len is 12; level
    0 to 14.
    Refused: 1, 4, 5. Written: all 12 places of cells, TICKLOCUST_NO_CELL in the unused ones, and
    *count, the number of cells listed. */
 uint32_t ticklocust_touching(uint32_t level, uint32_t cell, uint32_t *cells, size_t cells_len,
                              uint32_t *count);
 
-/* Reads a stored border ("Stored border"). cells_len is at least the number of codes plus one;
+/* Reads a stored border (docs/RULES.md, 8). cells_len is at least the number of codes plus one;
    4,097 is enough for every border.
    Refused: for the level 10 or 11, then 1; for the start cell 10 or 11, then 4; for the number of
    codes 10 or 11, then 9; then 10 (the codes end early), 12, 5 (cells_len), 7.
@@ -121,7 +121,7 @@ uint32_t ticklocust_touching(uint32_t level, uint32_t cell, uint32_t *cells, siz
 uint32_t ticklocust_border_read(const uint8_t *bytes, size_t bytes_len, uint32_t *cells,
                                 size_t cells_len, uint32_t *level, uint32_t *count);
 
-/* Writes a border in its stored form ("Stored border"). Each cell is one step from the one before.
+/* Writes a border in its stored form (docs/RULES.md, 8). Each cell is one step from the one before.
    Level 0 to 14. 1,544 bytes are enough for every border.
    Refused: 1, 5 (no cells), 9, 4, 7, 5 (bytes_len).
    Written: the first *length bytes, the others stay as they were; *length, the number of bytes
@@ -129,8 +129,8 @@ uint32_t ticklocust_border_read(const uint8_t *bytes, size_t bytes_len, uint32_t
 uint32_t ticklocust_border_write(uint32_t level, const uint32_t *cells, size_t cells_len,
                                  uint8_t *bytes, size_t bytes_len, uint32_t *length);
 
-/* All masks ("Masks") have level 0 to 8 and 4^level bytes; cell c is bit c mod 8, low bit first, of
-   byte c / 8. Each length passed with a mask is 4^level. */
+/* All masks (docs/RULES.md, 6) have level 0 to 8 and 4^level bytes; cell c is bit c mod 8, low bit
+   first, of byte c / 8. Each length passed with a mask is 4^level. */
 
 /* Grows a mask: marks the cells at most `rings` touching steps from a marked cell. Rings 0 to 64.
    Refused: 1, 5 (mask, out or work), 6. Written: out; work, which holds zeros afterwards. */
@@ -164,7 +164,7 @@ uint32_t ticklocust_within(uint32_t level, const uint8_t *a, size_t a_len, const
 uint32_t ticklocust_fill(uint32_t level, const uint8_t *border, size_t border_len, uint32_t outside,
                          uint8_t *out, size_t out_len);
 
-/* All charts ("Charts and ages") have level 0 to 8, 8 * 4^level temperatures in degrees Celsius and
+/* All charts (docs/RULES.md, 7) have level 0 to 8, 8 * 4^level temperatures in degrees Celsius and
    as many age bytes, in days. A temperature is in range from -5.0 to 45.0; NaN is not. */
 
 /* The reading of a cell.

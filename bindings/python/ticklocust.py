@@ -2,7 +2,8 @@ r"""Triangular cells of the globe, masks of cloud on them, and charts of sea tem
 Celsius, where every temperature has an age: the proved library libticklocust, through ctypes.
 
 Each function makes one call of include/ticklocust.h. It returns its result or raises Refused, whose
-`number` is that of document 01's table; a refused call leaves every buffer as it was.
+`number` is that of the table in docs/RULES.md, 9; a refused call leaves every buffer as it was. The
+sections of that page: positions 2, centres 3, codes 4, touching 5, masks 6, charts 7, borders 8.
 
 Buffers are bytes, bytearray, memoryview, array.array or numpy arrays. They are contiguous and are
 never copied. Masks, ages and stored borders are bytes; temperatures are 32-bit floats ('f') and
@@ -84,7 +85,7 @@ _SENTENCES = {
 
 
 class Refused(Exception):
-    """A call was refused. `number` is that of document 01's table, 1 to 12."""
+    """A call was refused. `number` is that of the table in docs/RULES.md, 9: 1 to 12."""
 
     number: int
 

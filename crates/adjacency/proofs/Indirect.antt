@@ -1,5 +1,5 @@
 -- Of the cells that touch a cell three are its direct neighbours. So an octant's corner cell has seven indirect neighbours, at level 0 three (source 000's
--- count, document 01, "Corners and touching"). Assumes nothing.
+-- count, docs/RULES.md, 5). Assumes nothing.
 use Prim.Native.Nat.{ℕ, zero, suc, _+_, _≤_, _<_}
 use mathlib.Core.Path.{_≡_, refl, sym, ap, subst, _∙_}
 use mathlib.Core.Bool.{Bool, true, false, _&&_, not, cond}

@@ -63,7 +63,7 @@ local-vertex k p uv w =
     let e = equatorial-ends (p .0) (leftOver k (p .1)) (col (p .1)) uv in
     three (ap (λ (q : ℤ × ℤ). q .0) e) (ap (λ (q : ℤ × ℤ). q .1) e) refl
 
--- ---- the paper's corners
+-- ---- the corners of the rules
 
 -- a corner by what it lies beyond the bases
 record BeyondBases (k : ℕ) (p : Place) (x : Point) : Type 0 where

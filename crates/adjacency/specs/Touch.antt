@@ -1,4 +1,4 @@
--- The list of touching cells (document 01, "Corners and touching"). At level k, N is 2 ^ k.
+-- The list of touching cells (docs/RULES.md, 5). At level k, N is 2 ^ k.
 use Prim.Native.Nat.{ℕ, zero, suc, _-_, _^_}
 use mathlib.Core.Path.{_≡_}
 use mathlib.Core.Bool.{Bool, _&&_, not, cond}

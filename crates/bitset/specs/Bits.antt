@@ -1,4 +1,4 @@
--- Sets of cells as bits of bytes (document 01, "Masks"): cell c is bit c mod 8, low bit first, of byte c / 8.
+-- Sets of cells as bits of bytes (docs/RULES.md, 6.1): bit c % 8 of byte c / 8 stands for cell c, bit 0 being the lowest.
 use Prim.Native.Nat.{ℕ, zero, suc, _+_, _*_, _/_, _%_, _^_, _<_}
 use mathlib.Core.Bool.{Bool, cond, not}
 use mathlib.Core.List.{List, [], _∷_, _++_}

@@ -1,4 +1,4 @@
-// Sets of cells as bits of bytes: document 01, "Masks".
+// Sets of cells as bits of bytes: docs/RULES.md, 6.1.
 ghost use mathlib.Core.Path.{_≡_};
 ghost use lib.ListN.{length, replicate};
 ghost use Rattle.bitset.specs.Bits.{marked, marking, bytesOf, outside};

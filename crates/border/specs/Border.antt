@@ -1,4 +1,4 @@
--- Reading and writing a stored border (document 01, "Stored border" and "Refused calls").
+-- Reading and writing a stored border (docs/RULES.md, 8 and 9).
 use Prim.Native.Nat.{ℕ, _+_, _-_, _^_}
 use mathlib.Core.Bool.{Bool, true, false, _||_}
 use mathlib.Core.List.{List, [], _∷_, _++_}
@@ -52,7 +52,7 @@ Header = ℕ × ℕ × ℕ × ℕ
 abbrev pub header : List ℕ → Header
 header bs = (value (levelRead bs), value (startRead bs), value (countRead bs), after (countRead bs))
 
--- "for level, start and count in turn the number (10, 11) and then its bound (1, 4, 9)"
+-- each of the three is tested as a stored number, 10 or 11, and then by its own bound: 1 for the level, 4 for the start, 9 for the count
 abbrev pub headerTests : List ℕ → List Test
 headerTests bs =
     badNumber (levelRead bs) ∷ badLevel maxLevel (value (levelRead bs))
@@ -67,7 +67,7 @@ badPadding n bs = 12 when leb (8 ^ n) (valueOf 256 bs)
 abbrev pub cellsOf : List ℕ → Header → Option (List ℕ)
 cellsOf bs (k, start, n, at) = walked k start (unpacked n (drop at bs))
 
--- "then 10, 12, 5, 7": the codes' bytes end early; bytes are left over, or pad bits not zero; no room for n + 1 cells; a step is missing
+-- after the header: the codes' bytes end early; bytes are left over, or pad bits not zero; no room for n + 1 cells; a step is missing
 abbrev pub codeTests : List ℕ → ℕ → Header → List Test
 codeTests bs room (k, start, n, at) =
     (10 when ltb (length bs) (at + codeBytes n))
@@ -82,7 +82,7 @@ readTests bs room = headerTests bs ++ codeTests bs room (header bs)
 abbrev pub cellsRead : List ℕ → List ℕ
 cellsRead bs = foundOr [] (cellsOf bs (header bs))
 
--- the reader fills the front of a cell slice, leaves its rest, and answers level and cell count
+-- the reader puts the cells into the first places of a slice, where the others stay, and answers the level and how many cells there are
 abbrev pub readBorder : List ℕ → List ℕ → Answer (ℕ × ℕ) × List ℕ
 readBorder bs out =
     lending
@@ -104,7 +104,7 @@ codesOf k cs = codesBetween k (getD cs 0 0) (drop 1 cs)
 abbrev pub borderBytes : ℕ → List ℕ → List ℕ
 borderBytes k cs = stored k (getD cs 0 0) (foundOr [] (codesOf k cs))
 
--- "Border writer: 1, 5 (no cells), 9, 4, 7, 5 (room)"
+-- the writer's tests in their order: level, no cells, too many codes, cells, steps, and last the room for the bytes
 abbrev pub writeTests : ℕ → List ℕ → ℕ → List Test
 writeTests k cs room =
     badLevel maxLevel k
@@ -114,7 +114,7 @@ writeTests k cs room =
     ∷ badStep (codesOf k cs)
     ∷ (5 when ltb room (length (borderBytes k cs))) ∷ []
 
--- the writer fills the front of a byte slice, leaves its rest, and answers the length
+-- the writer puts the bytes into the first places of a slice, where the others stay, and answers how many bytes there are
 abbrev pub writeBorder : ℕ → List ℕ → List ℕ → Answer ℕ × List ℕ
 writeBorder k cs out =
     lending

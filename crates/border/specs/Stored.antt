@@ -1,5 +1,5 @@
--- The stored form (document 01, "Stored border"): "Level, start cell, number of codes, then codes of three bits each, low bits first, the last byte
--- padded with zeros."
+-- The stored form (docs/RULES.md, 8): three stored numbers, which are the level, the first cell and how many codes follow, and then the codes in
+-- three bits each, with zeros after the last.
 use Prim.Native.Nat.{ℕ, zero, suc, _+_, _*_, _/_, _%_}
 use mathlib.Core.Bool.{Bool, true, false}
 use mathlib.Core.List.{List, [], _∷_, _++_}

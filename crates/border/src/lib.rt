@@ -1,4 +1,4 @@
-// The stored form of borders: document 01, "Stored border". Its definitions stand in specs/, what follows from them in proofs/; the reader and the
+// The stored form of borders: docs/RULES.md, 8. Its definitions stand in specs/, what follows from them in proofs/; the reader and the
 // writer are crates of their own.
 
 // The most codes.

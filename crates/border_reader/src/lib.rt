@@ -1,4 +1,4 @@
-// Reads stored borders: document 01, "Stored border".
+// Reads stored borders: docs/RULES.md, 8.
 mod codes;
 mod header;
 mod walking;

@@ -1,4 +1,4 @@
-// Writes stored borders: document 01, "Stored border".
+// Writes stored borders: docs/RULES.md, 8.
 mod codes;
 mod parts;
 

@@ -1,4 +1,4 @@
--- Cells and their numbers (document 01, "Cells and their numbers"). At level k, N is 2 ^ k.
+-- Cells and their numbers (docs/RULES.md, 1). At level k, N is 2 ^ k.
 use Prim.Native.Nat.{ℕ, zero, suc, _+_, _*_, _/_, _%_, _^_, _≤_, _<_}
 use mathlib.Core.Bool.{_||_}
 use mathlib.Core.List.{List, [], _∷_}

@@ -1,4 +1,4 @@
-// Cells and their numbers: document 01, "Cells and their numbers".
+// Cells and their numbers: docs/RULES.md, 1.
 mod bits;
 
 ghost use mathlib.Core.Path.{_≡_};
@@ -42,7 +42,7 @@ pub enum NumberAnswer {
     Refused(u8),
 }
 
-// The paper's up(row,col) of an octant.
+// up(row,col) of an octant.
 fn up(octant: u32, row: u32, col: u32) -> Place
     ensures { λ r. ⌜ placeOf r ≡ (octant, Triangle.up row col) ⌝ }
 {
@@ -55,7 +55,7 @@ fn up(octant: u32, row: u32, col: u32) -> Place
     }
 }
 
-// The paper's down(row,col) of an octant.
+// down(row,col) of an octant.
 fn down(octant: u32, row: u32, col: u32) -> Place
     ensures { λ r. ⌜ placeOf r ≡ (octant, Triangle.down row col) ⌝ }
 {

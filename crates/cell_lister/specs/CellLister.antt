@@ -1,4 +1,4 @@
--- What the cell lister prints (document 01, "Two programs"): a function of the bytes that it reads.
+-- What the cell lister prints (docs/RULES.md, 10): a function of the bytes that it reads.
 use Prim.Native.Nat.{ℕ}
 use mathlib.Core.List.{List, [], _∷_, _++_}
 use lib.ListN.{take, replicate}

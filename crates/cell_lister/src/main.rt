@@ -1,4 +1,4 @@
-// The cell lister of document 01, "Two programs": reads a stored border from standard input and prints its level and its cells, a line each, or the
+// The cell lister (docs/RULES.md, 10): reads a stored border from standard input and prints its level and its cells, a line each, or the
 // number by which it is refused.
 ghost use Prim.Native.Nat.{ℕ, _≤_};
 ghost use mathlib.Core.Path.{_≡_};

@@ -1,4 +1,4 @@
--- Centres of cells (document 01, "Cell to centre").
+-- Centres of cells (docs/RULES.md, 3).
 -- Latitudes and longitudes are whole millionths of a degree. At level k, N is 2 ^ k.
 use Prim.Native.Nat.{ℕ, _+_, _*_, _-_, _/_, _^_}
 use mathlib.Core.Bool.{cond}
@@ -10,7 +10,7 @@ use Rattle.position.specs.Position.{q, beginning}
 use Rattle.centre.specs.declared.CentreAnswer.{CentreAnswer}
 use Rattle.centre.specs.declared.CentreAnswer.the-variants as centre-answer
 
--- the paper's s: 1 for up and 2 for down
+-- s: 1 for up and 2 for down
 unfoldable pub thirds : Triangle → ℕ
 thirds (up a b) = 1
 thirds (down a b) = 2
@@ -27,7 +27,7 @@ centreM k f = (3 * col f + thirds f) * (q * q) / (3 * 2 ^ k * (q - centreP k f))
 abbrev pub latitudeOf : ℕ → ℕ → ℤ
 latitudeOf o p = cond (ltb o 4) (pos p) (negℤ (pos p))
 
--- the centre's latitude is p, in the south −p; its longitude is the octant's beginning plus m
+-- a centre: p as its latitude, negative in the south, and m added to the longitude at which the octant begins
 unfoldable pub centre : ℕ → Place → ℤ × ℤ
 centre k c = (latitudeOf (c .0) (centreP k (c .1)), beginning (c .0) +ℤ pos (centreM k (c .1)))
 

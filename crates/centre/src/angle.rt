@@ -1,4 +1,4 @@
-// Latitudes and longitudes of centres, by their octants: document 01, "Cell to centre". In this crate signed numbers are met here alone.
+// Latitudes and longitudes of centres, by their octants: docs/RULES.md, 3. In this crate signed numbers are met here alone.
 ghost use mathlib.Core.Path.{_≡_};
 ghost use Prim.Native.Nat.{_<_};
 ghost use lib.IntN.{pos, _+ℤ_};

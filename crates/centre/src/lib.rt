@@ -1,4 +1,4 @@
-// The centre of a cell: document 01, "Cell to centre".
+// The centre of a cell: docs/RULES.md, 3.
 mod angle;
 mod thirds;
 

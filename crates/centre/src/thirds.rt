@@ -1,4 +1,4 @@
-// Centres of cells, which lie thirds of a row and of a column in: document 01, "Cell to centre".
+// Centres of cells, which lie thirds of a row and of a column in: docs/RULES.md, 3.
 use crate::CentreAnswer;
 use crate::angle;
 use cell::Kind;

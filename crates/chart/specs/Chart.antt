@@ -1,4 +1,4 @@
--- Charts and ages (document 01, "Charts and ages"): a chart of level k is 8 × 4^k temperatures, 32-bit floats, and as many age bytes.
+-- Charts and ages (docs/RULES.md, 7): a chart of level k is 8 × 4^k temperatures, 32-bit floats, and as many age bytes.
 use Prim.Native.Nat.{ℕ, _≤_, _<_}
 use mathlib.Core.Bool.{Bool, true, false, _&&_, _||_, not, cond}
 use mathlib.Core.List.{List, [], _∷_}
@@ -34,13 +34,13 @@ lowest = fin true 5 (pos 0)
 abbrev pub highest : Float
 highest = fin false 45 (pos 0)
 
--- "A temperature is in range when −5.0 ≤ it ≤ 45.0; a value that is no number is not": each comparison is false of it
+-- in range: from −5.0 to 45.0, both included. A NaN is out of range, since each comparison is false of it
 unfoldable pub inRange : Float → Bool
 inRange t = Ieee.le lowest t && Ieee.le t highest
 
 -- ---- the reading of a cell
 
--- "fresh with its temperature (age 0), carried with temperature and days (age 1 to 30), or gap"
+-- what a cell reads: fresh or carried with its temperature, carried with its days too, or a gap with neither
 pub data Reading : Type 0 where
   fresh : Float → Reading
   carried : Float → ℕ → Reading
@@ -50,7 +50,7 @@ pub data Reading : Type 0 where
 abbrev pub maxDays : ℕ
 maxDays = 30
 
--- "An age above 30 or a temperature outside the range is a gap."
+-- age 0 is fresh and ages to 30 are carried; older ages, and all temperatures that are not in range, are gaps
 unfoldable pub readingOf : Float → ℕ → Reading
 readingOf t age = cond (ltb maxDays age || not (inRange t)) gap (cond (eqb age 0) (fresh t) (carried t age))
 

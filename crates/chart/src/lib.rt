@@ -1,4 +1,4 @@
-// Charts, the temperatures of cells with their ages: document 01, "Charts and ages".
+// Charts, the temperatures of cells with their ages: docs/RULES.md, 7.
 ghost use mathlib.Core.Path.{_≡_};
 ghost use Rattle.refusal.specs.Answer.{given};
 ghost use Rattle.refusal.specs.Outcome.{saidOutcome};

@@ -1,4 +1,4 @@
--- What is said of steps in theorems (document 01, "Steps and codes"): the code back, the direct codes, and a cell's three direct neighbours.
+-- What is said of steps in theorems (docs/RULES.md, 4): the code back, the direct codes, and a cell's three direct neighbours.
 use Prim.Native.Nat.{ℕ}
 use mathlib.Core.Bool.{Bool, true, false}
 use mathlib.Core.List.{[], _∷_}

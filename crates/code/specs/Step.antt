@@ -1,4 +1,4 @@
--- Steps and codes (document 01, "Steps and codes"). The codes 0 to 7 are t, l, r, e, w, T, E, W. At level k, N is 2 ^ k.
+-- Steps and codes (docs/RULES.md, 4). The codes 0 to 7 are t, l, r, e, w, T, E, W. At level k, N is 2 ^ k.
 use Prim.Native.Nat.{ℕ, zero, suc, _+_, _*_, _-_, _/_, _%_, _^_}
 use mathlib.Core.Bool.{Bool, true, false}
 use mathlib.Core.List.{List, [], _∷_, map}

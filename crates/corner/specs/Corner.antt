@@ -1,4 +1,4 @@
--- Corners as points, and touching (document 01, "Corners and touching"). At level k, N is 2 ^ k.
+-- Corners as points, and touching (docs/RULES.md, 5). At level k, N is 2 ^ k.
 use Prim.Native.Nat.{ℕ, _+_, _-_, _%_, _^_}
 use mathlib.Core.Bool.{Bool, true, false, _&&_, _||_, not, cond}
 use mathlib.Core.List.{List, [], _∷_}
@@ -76,7 +76,7 @@ among x ys = samePoint x (getD ys 0 []) || samePoint x (getD ys 1 []) || samePoi
 unfoldable pub common : List Point → List Point → Bool
 common xs ys = among (getD xs 0 []) ys || among (getD xs 1 []) ys || among (getD xs 2 []) ys
 
--- two different cells touch when they have a point in common
+-- cells touch where they share a point and are not one cell
 unfoldable pub touches : ℕ → ℕ → ℕ → Bool
 touches k m n = not (eqb m n) && common (corners k (place k m)) (corners k (place k n))
 

@@ -1,4 +1,4 @@
-// The corners of a cell as points of three whole numbers (document 01, "Corners and touching").
+// The corners of a cell as points of three whole numbers (docs/RULES.md, 5).
 ghost use mathlib.Core.Path.{_≡_};
 ghost use mathlib.Core.Bool.{cond};
 ghost use Prim.Native.Nat.{_+_, _^_, _<_, _≤_};
@@ -42,7 +42,7 @@ fn corner_of(level: u32, octant: u32, t: u32, r: u32) -> [i32; 3]
     ]
 }
 
-// The three corners of a cell, in the paper's order.
+// The three corners of a cell, in the order of the rules.
 pub(crate) fn corners_of(level: u32, place: Place) -> [[i32; 3]; 3]
     requires { ⌜ (level ≤ maxLevel) × Occurs level (placeOf place) ⌝ }
     ensures { λ ps. ⌜ ps ≡ corners level (placeOf place) ⌝ }

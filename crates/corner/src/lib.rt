@@ -1,4 +1,4 @@
-// Whether two cells touch: document 01, "Corners and touching". Touching is vertex adjacency: two different cells have a corner in common.
+// Whether two cells touch: docs/RULES.md, 5. Touching is vertex adjacency: two different cells have a corner in common.
 ghost use mathlib.Core.Path.{_≡_};
 ghost use Prim.Native.Nat.{_<_};
 ghost use Rattle.corner.specs.Corner.{coordinate, sameNumber, samePoint, among, common, saidTouch, touchCall};

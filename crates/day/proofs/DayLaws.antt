@@ -207,7 +207,7 @@ pub count-after : (n d : ℕ) (new : List Float) (clouds : List ℕ) (temps : Li
 unfolding summaryAfter
 count-after n d new clouds temps ages = count-fresh n (readsAfter n d new clouds temps ages)
 
--- the paper's case: D = 2, clouded, old temperature in range: old age 1 gives age 2, old age 2 gives a gap
+-- the worked case: with a limit of 2 a covered cell in range of age 1 gets age 2, and one of age 2 becomes a gap
 pub two-days : (new old : Float) → inRange old ≡ true → (dayOf true new old 1 2 ≡ (old, 2)) × (dayOf true new old 2 2 ≡ (nought, 255))
 unfolding dayOf
 two-days new old i = (rw i, refl)

@@ -1,4 +1,4 @@
--- One day of a chart (document 01, "Charts and ages"): it reads new temperatures and a cloud mask, rewrites the chart's two slices, and answers a
+-- One day of a chart (docs/RULES.md, 7.3): it reads new temperatures and a cloud mask, rewrites the chart's two slices, and answers a
 -- summary of the chart that it leaves.
 use Prim.Native.Nat.{ℕ, zero, suc, _+_, _^_, _<_}
 use mathlib.Core.Bool.{Bool, true, false, _&&_, not, cond}
@@ -24,8 +24,8 @@ use Rattle.day.specs.declared.DayAnswer.the-variants as day-answer
 abbrev pub nought : Float
 nought = fin false 0 (pos 0)
 
--- temperature and age of one cell, with day limit d: "an unmarked cell whose new temperature is in range takes it, age 0. Another cell keeps its old
--- temperature and gets age + 1 if that is at most D and the old temperature is in range; otherwise temperature 0.0, age 255."
+-- temperature and age of one cell, with day limit d: open and with a new temperature in range, the cell has that one at age 0. Otherwise an old
+-- temperature in range stays and is a day older, as long as that is within d; and what is left is a gap, 0.0 at age 255
 unfoldable pub dayOf : Bool → Float → Float → ℕ → ℕ → Float × ℕ
 dayOf covered new old age d = cond (not covered && inRange new) (new, 0) (cond (leb (age + 1) d && inRange old) (old, age + 1) (nought, 255))
 
@@ -97,10 +97,10 @@ pub record Foremost (ahead notBehind : Float → Float → Bool) (n : ℕ) (Read
   pub own : Reads cell x
   -- it bounds those of all
   pub bounds : (c : ℕ) → c < n → (t : Float) → Reads c t → notBehind x t ≡ true
-  -- it is ahead of those of all cells before its own: "on equal temperatures the first in cell order stands"
+  -- it is ahead of those of all cells before its own: of equal temperatures it is the first in the order of cells
   pub first : (c : ℕ) → c < cell → (t : Float) → Reads c t → ahead x t ≡ true
 
--- "coldest and warmest of the fresh cells"
+-- the lowest and the highest temperature of the fresh cells
 abbrev pub Coldest : ℕ → (ℕ → Float → Type 0) → Float → Type 0
 Coldest = Foremost (λ x t. Ieee.lt x t) (λ x t. Ieee.le x t)
 

@@ -1,4 +1,4 @@
-// One day of a chart: document 01, "Charts and ages".
+// One day of a chart: docs/RULES.md, 7.3.
 ghost use mathlib.Core.Path.{_≡_};
 ghost use mathlib.Core.Bool.{true, cond};
 ghost use Prim.Native.Nat.{_≤_, _<_};

@@ -1,4 +1,4 @@
--- A centre by document 01's formula. Assumes nothing.
+-- A centre by its formula (docs/RULES.md, 3). Assumes nothing.
 use Prim.Native.Nat.{ℕ, _+_, _*_, _-_, _/_, _^_, _<_}
 use mathlib.Core.Path.{_≡_, refl, sym, ap, subst, _∙_}
 use native.Mathlib.Nat.{div-mul-le-self, lt-div-mul-add, add-mul, mul-pos}

@@ -1,4 +1,4 @@
--- The step call and the paper's lines: a step is given exactly where the places of the two cells stand on one of the lines. Assumes nothing.
+-- The step call and the lines of the rules: a step is given exactly where the places of the two cells stand on one of the lines. Assumes nothing.
 use Prim.Native.Nat.{ℕ, _+_, _-_, _^_, _≤_, _<_}
 use mathlib.Core.Path.{_≡_, refl, sym, ap, subst, _∙_}
 use mathlib.Core.Logic.{_↔_}
@@ -39,7 +39,7 @@ module _ (k n m c : ℕ) where
       let h = given-place k m r (sym f) in
       joined k n c m (in-range k n (place k n) (g .level) (g .below) refl) (rw (g .at, h .at) (move-step k w))
 
--- ---- inside an octant: the paper's lines, and the relation that the laws of steps go by
+-- ---- inside an octant: the lines of the rules, and the relation that the laws of steps go by
 
 to-line : {f : Triangle} {c : ℕ} {g : Triangle} → Inner f c g → Inside c f g
 to-line (laws.up-t {a} {a′} {b} e) = let h : a′ + 1 ≡ a = omega arith in subst (λ (i : ℕ). Inside 0 (up i b) (down a′ b)) h up-t

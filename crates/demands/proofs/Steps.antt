@@ -1,4 +1,4 @@
--- The paper's touching steps, by lists of cells, are the steps that growing and shrinking are defined by. Assumes nothing.
+-- Touching steps by lists of cells (docs/RULES.md, 5) are the steps that growing and shrinking are defined by. Assumes nothing.
 use Prim.Native.Nat.{ℕ, zero, suc, _<_}
 use mathlib.Core.Path.{_≡_, sym, subst, _∙_}
 use mathlib.Core.Bool.{Bool, true}

@@ -1,4 +1,4 @@
--- Every starred cell and mask of document 01 is as the paper has it, and the two fillings are as worked out: the definitions compute to it.
+-- Every starred example (docs/RULES.md, 11) is as worked out, and so are the two fillings: the definitions compute to it.
 -- Assumes nothing.
 use mathlib.Core.Path.{refl}
 use Rattle.cell.specs.Cell.{row, col, children, child, triangle, span, place, parents, parities, asChild, digits, number}

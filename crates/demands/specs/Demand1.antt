@@ -1,4 +1,4 @@
--- Demand 1: what is refused, and how (document 01, "Refused calls").
+-- Demand 1: what is refused, and how (docs/RULES.md, 9).
 use Prim.Native.Nat.{ℕ, _+_, _-_, _≤_, _^_}
 use mathlib.Core.Path.{_≡_}
 use mathlib.Core.Bool.{true}
@@ -55,13 +55,13 @@ pub record LentByTests {A S : Type 0} (ts : List Test) (result : Answer A × S) 
   pub answers : ByTests ts (result .0) value
   pub slices : Lends result value before after
 
--- where the paper gives another order: it is refused by the first of its tests that applies, and gives its value exactly when none does
+-- where the rules give another order: it is refused by the first of its tests that applies, and gives its value exactly when none does
 pub record InOrder {A S : Type 0} (ts : List Test) (result : Answer A × S) (value : A) (before after : S) : Type 0 where
   pub refuses : (n : ℕ) → (result .0 ≡ refused n) ↔ First n ts
   pub gives : (result .0 ≡ given value) ↔ ((n : ℕ) → Applies n ts → ⊥)
   pub slices : Lends result value before after
 
--- Demand 1, call by call: the tests, each under its number, are those that document 01's table gives the call
+-- Demand 1, call by call: the tests, each under its number, are those that the table in docs/RULES.md, 9, gives the call
 pub record Demand1 : Type 0 where
   -- place of a number: 1, 4
   pub place-of : (k n : ℕ) → ByTests (badLevel maxLevel k ∷ badCell k n ∷ []) (placeCall k n) (place k n)

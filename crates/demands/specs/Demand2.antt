@@ -1,5 +1,5 @@
--- Demand 2: cells and their numbers, positions, centres, steps, touching, filling, what a day leaves and answers, and stored borders are as document 01
--- says, by the calls' answers.
+-- Demand 2: cells and their numbers, positions, centres, steps, touching, filling, what a day leaves and answers, and stored borders are as
+-- docs/RULES.md, 1 to 8, says, by the calls' answers.
 use Prim.Native.Nat.{ℕ, suc, _+_, _*_, _-_, _/_, _^_, _≤_, _<_}
 use mathlib.Core.Path.{_≡_}
 use mathlib.Core.Bool.{Bool, true, false}
@@ -138,12 +138,12 @@ pub record Demand2 : Type 0 where
   -- every cell of every level to 14 has a centre, and the cell at that centre is the cell
   pub has-centre : (k n : ℕ) → k ≤ maxLevel → n < cells k →
       (c : ℤ × ℤ) × (centreCall k n ≡ given c) × (cellCall k (c .0) (c .1) ≡ given n)
-  -- it is where document 01's formula puts it, with s = 1 for up and s = 2 for down
+  -- it is where the formula puts it, with s = 1 for up and s = 2 for down
   pub centre-up : (k n o a b : ℕ) (y x : ℤ) → placeCall k n ≡ given (o, up a b) → centreCall k n ≡ given (y, x) → CentreIs k o a b 1 y x
   pub centre-down : (k n o a b : ℕ) (y x : ℤ) → placeCall k n ≡ given (o, down a b) → centreCall k n ≡ given (y, x) → CentreIs k o a b 2 y x
   -- whatever centre is given leads back
   pub centre-returns : (k n : ℕ) (y x : ℤ) → centreCall k n ≡ given (y, x) → cellCall k y x ≡ given n
-  -- t, l, r, e and w lead where the paper's lines say, and inside the octant only
+  -- t, l, r, e and w lead where the lines above say, and inside the octant only
   pub inside-octant : (k n m c : ℕ) → c < 5 →
       (stepCall k n c ≡ given m) ↔
       ((o : ℕ) × (f : Triangle) × (g : Triangle) × (placeCall k n ≡ given (o, f)) × (placeCall k m ≡ given (o, g)) × Inside c f g)
@@ -176,7 +176,7 @@ pub record Demand2 : Type 0 where
   -- the direct neighbours that filling goes by are those to which a direct code leads
   pub direct-step : (k n m : ℕ) → k ≤ maxLevel → n < cells k →
       (isDirect k n m ≡ true) ↔ ((c : ℕ) × (direct c ≡ true) × (stepCall k n c ≡ given m))
-  -- two different cells touch when they have a point in common, and only then
+  -- cells touch exactly when they are not one cell and share a point
   pub touch-point : (k n m : ℕ) → k ≤ maxLevel → n < cells k → m < cells k →
       (touchCall k n m ≡ given true) ↔ (¬ (n ≡ m) × ((x : Point) × In x (corners k (place k n)) × In x (corners k (place k m))))
   -- touching is mutual, refusals too

@@ -1,4 +1,4 @@
--- Demand 3: growing and shrinking by touching steps, lists of growings, joining and within. Document 01 ("Corners and touching", "Masks") fixes its terms.
+-- Demand 3: growing and shrinking by touching steps, lists of growings, joining and within. Its terms are those of docs/RULES.md, 5 and 6.
 use Prim.Native.Nat.{ℕ, _+_, _^_, _≤_, _<_}
 use mathlib.Core.Path.{_≡_}
 use mathlib.Core.Bool.{Bool, true, false, _&&_}

@@ -1,5 +1,4 @@
--- The cells and masks that document 01 works out and marks with a star ("Cells worked out"), and two fillings besides, as one list of statements over the
--- calls' own definitions.
+-- The starred examples (docs/RULES.md, 11), and two fillings besides, as one list of statements over the calls' own definitions.
 use mathlib.Core.Path.{_≡_}
 use mathlib.Core.List.{List, [], _∷_}
 use lib.IntN.{pos, negℤ}

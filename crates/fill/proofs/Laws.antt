@@ -1,4 +1,4 @@
--- What a fill is (document 01, "Masks"), over the definition that the call's contract cites. Assumes nothing.
+-- What a fill is (docs/RULES.md, 6.2), over the definition that the call's contract cites. Assumes nothing.
 use Prim.Native.Nat.{ℕ, zero, suc, _+_, _^_, _<_}
 use mathlib.Core.Path.{_≡_, refl, sym, ap, subst, _∙_}
 use mathlib.Core.Bool.{Bool, true, false, not}
@@ -56,7 +56,7 @@ module _ (k : ℕ) (A : ℕ → Bool) where
   unfolding openStep
   step-unmarked c d e = not-true (A d) (parts (isDirect k c d) (not (A d)) e .1)
 
-  -- ---- the paper's lists and the computed test agree
+  -- ---- lists of cells and the computed test agree
 
   R : ℕ → ℕ → Bool
   R = openStep k A

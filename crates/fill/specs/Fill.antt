@@ -1,4 +1,4 @@
--- Filling a region (document 01, "Masks"): all cells that the outside cell can't reach by direct steps through unmarked cells.
+-- Filling a region (docs/RULES.md, 6.2): the cells to which no chain of direct steps over unmarked cells leads from the outside cell.
 use Prim.Native.Nat.{ℕ, _^_}
 use mathlib.Core.Bool.{Bool, _&&_, not}
 use mathlib.Core.List.{List, [], _∷_}
@@ -15,7 +15,7 @@ use Rattle.walk.specs.Reach.{reaches}
 unfoldable pub openStep : ℕ → (ℕ → Bool) → ℕ → ℕ → Bool
 openStep k A c d = isDirect k c d && not (A d)
 
--- the paper's words: some list of cells begins with the outside cell o and ends with c, from each a direct step to the next, which is unmarked
+-- some list of cells begins with the outside cell o and ends with c, from each a direct step to the next, which is unmarked
 abbrev pub Reachable : ℕ → (ℕ → Bool) → ℕ → ℕ → Type 0
 Reachable k A o c = (m : ℕ) × Walk (openStep k A) m o c
 

@@ -1,4 +1,4 @@
-// Filling a region: document 01, "Masks". What the outside cell can't reach by direct steps through unmarked cells is the fill.
+// Filling a region: docs/RULES.md, 6.2. The fill is what no direct steps over unmarked cells reach from the outside cell.
 ghost use mathlib.Core.Path.{_≡_};
 ghost use Rattle.refusal.specs.Answer.{done, inOrder};
 ghost use Rattle.refusal.specs.Outcome.{saidOutcome};

@@ -1,4 +1,4 @@
--- Growing and shrinking (document 01, "Masks"), by touching steps between the cells of a level.
+-- Growing and shrinking (docs/RULES.md, 6.2), by touching steps between the cells of a level.
 use Prim.Native.Nat.{ℕ, _^_}
 use mathlib.Core.Bool.{Bool}
 use mathlib.Core.List.{List, [], _∷_}

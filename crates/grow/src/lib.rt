@@ -1,4 +1,4 @@
-// Growing and shrinking of masks by rings of touching cells (dilation and erosion): document 01, "Masks".
+// Growing and shrinking of masks by rings of touching cells (dilation and erosion): docs/RULES.md, 6.2.
 ghost use mathlib.Core.Path.{_≡_};
 ghost use Prim.Native.Nat.{_^_, _≤_};
 ghost use lib.ListN.{length, replicate};

@@ -1,4 +1,4 @@
--- Masks (document 01, "Masks"): a mask of level k is exactly 4^k bytes, and the cells of level k are the numbers below 8 × 4^k.
+-- Masks (docs/RULES.md, 6): a mask of level k is exactly 4^k bytes, and the cells of level k are the numbers below 8 × 4^k.
 use Prim.Native.Nat.{ℕ, zero, suc, _^_}
 use mathlib.Core.Bool.{Bool, _&&_, _||_, not, cond}
 use mathlib.Core.List.{List, [], _∷_}

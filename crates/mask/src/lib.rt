@@ -1,4 +1,4 @@
-// Masks of cells: document 01, "Masks".
+// Masks of cells: docs/RULES.md, 6.
 ghost use mathlib.Core.Path.{_≡_};
 ghost use mathlib.Core.Bool.{true, false};
 ghost use Prim.Native.Nat.{ℕ, _*_, _^_, _≤_, _<_};
@@ -63,7 +63,7 @@ pub fn count(level: u32, mask: &[u8]) -> CountAnswer
 }
 
 // The lowest cell that is marked in the first mask and not in the second, or the number past the last cell where there is none.
-// Document 01 asks for a byte scan with a bit scan inside, left by a label at the first cell that lacks.
+// A byte scan with a bit scan inside: a labelled break leaves both loops at the first cell of a that b lacks.
 fn first_lacking(a: &[u8], b: &[u8]) -> CellNumber
     requires { ⌜ (length (now a) ≤ 4 ^ maxMaskLevel) × (length (now b) ≡ length (now a)) ⌝ }
     ensures none_below { λ r. ⌜ ((c : ℕ) → c < r → difference (marked (now (a .entry))) (marked (now (b .entry))) c ≡ false) ⌝ }

@@ -1,4 +1,4 @@
--- Positions and cells (document 01, "Position to cell").
+-- Positions and cells (docs/RULES.md, 2).
 -- Latitudes and longitudes are whole millionths of a degree. At level k, N is 2 ^ k.
 use Prim.Native.Nat.{ℕ, _+_, _*_, _-_, _/_, _%_, _^_, _≤_, _<_}
 use mathlib.Core.Bool.{Bool, cond}
@@ -35,7 +35,7 @@ beginning o = getD beginnings (o % 4) (pos 0)
 unfoldable pub fromWest : ℤ → ℕ
 fromWest x = natAbs (x +ℤ pos (2 * q))
 
--- the northern octant of a longitude, and the longitude less its beginning, the paper's m
+-- the northern octant of a longitude, and the longitude less its beginning, which is m
 unfoldable pub northOctant : ℤ → ℕ
 northOctant x = (fromWest x / q + 2) % 4
 

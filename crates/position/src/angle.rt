@@ -1,4 +1,4 @@
-// Latitudes and longitudes, and the octants that they name: document 01, "Position to cell". In this crate signed numbers are met here alone.
+// Latitudes and longitudes, and the octants that they name: docs/RULES.md, 2. In this crate signed numbers are met here alone.
 ghost use mathlib.Core.Path.{_≡_};
 ghost use mathlib.Core.Bool.{false};
 ghost use lib.IntN.{natAbs};

@@ -1,4 +1,4 @@
-// The cell at a position: document 01, "Position to cell".
+// The cell at a position: docs/RULES.md, 2.
 mod angle;
 mod place;
 

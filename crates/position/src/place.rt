@@ -1,4 +1,4 @@
-// The place of a position in its octant, by the exact fractions T and R: document 01, "Position to cell".
+// The place of a position in its octant, by the exact fractions T and R: docs/RULES.md, 2.
 use crate::QUARTER;
 use cell::Kind;
 use cell::Place;

@@ -1,11 +1,11 @@
--- What a call answers, and how its tests are put in order (document 01, "Refused calls").
+-- What a call answers, and how its tests are put in order (docs/RULES.md, 9).
 use Prim.Native.Nat.{ℕ}
 use mathlib.Core.Bool.{Bool, true, false}
 use mathlib.Core.List.{List, [], _∷_}
 use mathlib.Core.Logic.{_⊎_}
 use mathlib.Core.Path.{_≡_}
 
--- a value, or a refusal by the paper's number
+-- a value, or a refusal by its number
 pub data Answer (A : Type 0) : Type 0 where
   given : A → Answer A
   refused : ℕ → Answer A

@@ -1,4 +1,4 @@
--- Tests that calls of several crates have, each with its number in document 01's table ("Refused calls").
+-- Tests that calls of several crates have, each with its number in the table of docs/RULES.md, 9.
 use Prim.Native.Nat.{ℕ}
 use mathlib.Core.Bool.{false, not}
 use mathlib.Core.List.{List}

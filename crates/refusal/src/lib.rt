@@ -1,4 +1,4 @@
-// The numbers by which a call is refused, as document 01 ("Refused calls") gives them.
+// The numbers by which a call is refused, as docs/RULES.md, 9, gives them.
 // A refused call answers its number and nothing else, and every lent slice stays as it was.
 
 // The level is above its bound.

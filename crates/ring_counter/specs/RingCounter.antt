@@ -1,4 +1,4 @@
--- What the ring counter prints (document 01, "Two programs"): a function of the bytes that it reads.
+-- What the ring counter prints (docs/RULES.md, 10): a function of the bytes that it reads.
 use Prim.Native.Nat.{ℕ}
 use mathlib.Core.List.{List, [], _∷_, _++_}
 use lib.ListN.{getD, drop}

@@ -1,4 +1,4 @@
-// Steps between cells along the eight codes: document 01, "Steps and codes".
+// Steps between cells along the eight codes: docs/RULES.md, 4.
 // Codes 0 to 7 are t, l, r, e, w, T, E, W. At level k an octant has N = 2^k rows.
 ghost use mathlib.Core.List.{[], _∷_};
 ghost use mathlib.Core.Path.{_≡_};

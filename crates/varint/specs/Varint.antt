@@ -1,5 +1,5 @@
--- The numbers of a stored border (document 01, "Stored border"): "groups of seven bits, low group first, the high bit set when another follows,
--- shortest form, at most five bytes and below 2^32".
+-- The numbers of a stored border (docs/RULES.md, 8): seven bits to a byte, the lowest first, and the high bit says that another byte follows. No form
+-- is longer than it needs to be or than five bytes, and all numbers are below 2^32.
 use Prim.Native.Nat.{ℕ, zero, suc, _+_, _-_, _*_, _/_, _%_, _^_, _≤_, _<_}
 use mathlib.Core.Bool.{not, cond}
 use mathlib.Core.Logic.{_⊎_}

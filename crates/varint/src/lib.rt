@@ -1,4 +1,4 @@
-// The numbers of a stored border: document 01, "Stored border". Groups of seven bits, low group first.
+// The numbers of a stored border: docs/RULES.md, 8. Groups of seven bits, low group first.
 ghost use mathlib.Core.Path.{_≡_};
 ghost use Prim.Native.Nat.{_+_, _≤_};
 ghost use lib.ListN.{length, drop};

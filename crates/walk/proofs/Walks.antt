@@ -1,4 +1,4 @@
--- Walks: the paper's lists of at most m + 1 cells, and the cells reached step by step, are the same. Assumes nothing.
+-- Walks: lists of at most m + 1 cells (docs/RULES.md, 5), and the cells reached step by step, are the same. Assumes nothing.
 use Prim.Native.Nat.{ℕ, zero, suc, _+_, _≤_}
 use mathlib.Core.Path.{_≡_, refl, sym, subst}
 use mathlib.Core.Bool.{Bool, true}

@@ -1,4 +1,4 @@
--- Steps between numbers below M, and what grows and shrinks by them (document 01, "Masks"). R c d says whether one step leads from c to d.
+-- Steps between numbers below M, and what grows and shrinks by them (docs/RULES.md, 6). R c d says whether one step leads from c to d.
 use Prim.Native.Nat.{ℕ, zero, suc}
 use mathlib.Core.Bool.{Bool, true, false, _&&_, _||_, not}
 use lib.Dec.{eqb}

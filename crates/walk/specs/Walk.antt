@@ -1,4 +1,4 @@
--- Walks from cell to cell (document 01, "Corners and touching", "Masks"), over any test R of two cells: R c d says whether one step leads from c to d.
+-- Walks from cell to cell (docs/RULES.md, 5 and 6), over any test R of two cells: R c d says whether one step leads from c to d.
 use Prim.Native.Nat.{ℕ, _+_, _≤_}
 use mathlib.Core.Path.{_≡_}
 use mathlib.Core.Bool.{Bool, true}

@@ -1,4 +1,4 @@
--- `corners_of` meets its contract: each kind's corners in the paper's order, all of them inside the octant. Assumes nothing.
+-- `corners_of` meets its contract: each kind's corners in the order of the rules, all of them inside the octant. Assumes nothing.
 use Prim.Native.Nat.{ℕ, _+_, _^_, _≤_}
 use native.Mathlib.Omega.{arith}
 use lib.Pow.{pow-mono}
