@@ -130,33 +130,33 @@ module _ (k : ℕ) (low : k ≤ 8) where
   edges-lead v n hv hn Up Down i j (inl m) o a b o′ a′ b′ x y p q = never (m .1)
   edges-lead v n hv hn Up Down i j (inr m) o a b o′ a′ b′ x y p q = never (m .1)
   edges-lead v n hv hn Up Up i j (inl m) o a b o′ a′ b′ x y p q = ⊎-elim
-      (λ (z : (i ≡ spot v n (2 ^ k - 1 - n)) × (j ≡ spot (v / 4 * 4 + (v + 1) % 4) n 0)).
+      (λ (z : (i ≡ spot v n (2 ^ k - 1 - n)) × (j ≡ spot (east v) n 0)).
       let f = one-spot o a b v n (2 ^ k - 1 - n) (omega (arith, x .1)) (omega arith) (p ∙ z .0) in
-      let g = one-spot o′ a′ b′ (v / 4 * 4 + (v + 1) % 4) n 0 (omega (arith, y .1)) (omega arith) (q ∙ z .1) in
+      let g = one-spot o′ a′ b′ (east v) n 0 (omega (arith, y .1)) (omega arith) (q ∙ z .1) in
       let ea : a′ ≡ a = g .1 ∙ sym (f .1) in
-      let eo : o′ ≡ o / 4 * 4 + (o + 1) % 4 = omega (arith, f .0, g .0) in
+      let eo : o′ ≡ east o = omega (arith, f .0, g .0) in
       let far : a + b + 1 ≡ 2 ^ k = omega (arith, f .1, f .2) in
       (6, refl, rw ea (over-E eo far (g .2))))
-      (λ (z : (i ≡ spot (v / 4 * 4 + (v + 1) % 4) n 0) × (j ≡ spot v n (2 ^ k - 1 - n))).
-      let f = one-spot o a b (v / 4 * 4 + (v + 1) % 4) n 0 (omega (arith, x .1)) (omega arith) (p ∙ z .0) in
+      (λ (z : (i ≡ spot (east v) n 0) × (j ≡ spot v n (2 ^ k - 1 - n))).
+      let f = one-spot o a b (east v) n 0 (omega (arith, x .1)) (omega arith) (p ∙ z .0) in
       let g = one-spot o′ a′ b′ v n (2 ^ k - 1 - n) (omega (arith, y .1)) (omega arith) (q ∙ z .1) in
       let ea : a′ ≡ a = g .1 ∙ sym (f .1) in
-      let eo : o′ ≡ o / 4 * 4 + (o + 3) % 4 = omega (arith, f .0, g .0) in
+      let eo : o′ ≡ west o = omega (arith, f .0, g .0) in
       let far : b′ ≡ 2 ^ k - 1 - a = omega (arith, f .1, g .2) in
       (7, refl, rw ea (over-W eo (f .2) far)))
       (m .2)
   edges-lead v n hv hn Up Up i j (inr m) o a b o′ a′ b′ x y p q = ⊎-elim
-      (λ (z : (i ≡ spot v 0 n) × (j ≡ spot ((v + 4) % 8) 0 n)).
+      (λ (z : (i ≡ spot v 0 n) × (j ≡ spot (across v) 0 n)).
       let f = one-spot o a b v 0 n (omega (arith, x .1)) (omega arith) (p ∙ z .0) in
-      let g = one-spot o′ a′ b′ ((v + 4) % 8) 0 n (omega (arith, y .1)) (omega arith) (q ∙ z .1) in
+      let g = one-spot o′ a′ b′ (across v) 0 n (omega (arith, y .1)) (omega arith) (q ∙ z .1) in
       crossed (omega (arith, f .0, g .0)) f g)
-      (λ (z : (i ≡ spot ((v + 4) % 8) 0 n) × (j ≡ spot v 0 n)).
-      let f = one-spot o a b ((v + 4) % 8) 0 n (omega (arith, x .1)) (omega arith) (p ∙ z .0) in
+      (λ (z : (i ≡ spot (across v) 0 n) × (j ≡ spot v 0 n)).
+      let f = one-spot o a b (across v) 0 n (omega (arith, x .1)) (omega arith) (p ∙ z .0) in
       let g = one-spot o′ a′ b′ v 0 n (omega (arith, y .1)) (omega arith) (q ∙ z .1) in
       crossed (omega (arith, f .0, g .0)) f g)
       (m .2)
     where
-      crossed : {w w′ : ℕ} → o′ ≡ (o + 4) % 8 → (o ≡ w) × (a ≡ 0) × (b ≡ n) → (o′ ≡ w′) × (a′ ≡ 0) × (b′ ≡ n) → Leads (o, up a b) (o′, up a′ b′)
+      crossed : {w w′ : ℕ} → o′ ≡ across o → (o ≡ w) × (a ≡ 0) × (b ≡ n) → (o′ ≡ w′) × (a′ ≡ 0) × (b′ ≡ n) → Leads (o, up a b) (o′, up a′ b′)
       crossed e f g =
           let ea : a′ ≡ a = g .1 ∙ sym (f .1) in
           let eb : b′ ≡ b = g .2 ∙ sym (f .2) in

@@ -14,7 +14,8 @@ use Rattle.bitset.specs.Bits.{bit}
 use Rattle.bitset.proofs.Laws.{bit-pow, shifted}
 use Rattle.cell.specs.declared.Kind.{Kind}
 use Rattle.cell.specs.declared.Kind.the-variants.{Up}
-use Rattle.rows.specs.Rows.{lit, spot, east}
+use Rattle.rows.specs.Rows.{lit, spot}
+use Rattle.code.specs.Step.{across, east}
 use Rattle.flood.specs.Flood.{litOf, Pair, Edges}
 use Rattle.flood.specs.inside.Turns.{Joined, One, Turn}
 use Rattle.flood.proofs.Turns.{turn-none, turn-join}
@@ -50,7 +51,7 @@ turn-pair {p} {q} = turn-join
 
 -- over both edges
 pub turn-edges : (k o n : ℕ) {p q p′ q′ : ℕ} {ou od u₀ d₀ u₁ d₁ u₂ d₂ : List ℕ} {a b : Bool} →
-    p ≡ spot o n (2 ^ k - 1 - n) → q ≡ spot (east o) n 0 → p′ ≡ spot o 0 n → q′ ≡ spot ((o + 4) % 8) 0 n →
+    p ≡ spot o n (2 ^ k - 1 - n) → q ≡ spot (east o) n 0 → p′ ≡ spot o 0 n → q′ ≡ spot (across o) 0 n →
     Turn (Pair p q) ou od u₀ d₀ u₁ d₁ a → Turn (Pair p′ q′) ou od u₁ d₁ u₂ d₂ b → Turn (Edges k o n) ou od u₀ d₀ u₂ d₂ (a || b)
 turn-edges k o n e f g h x y = turn-join (λ s t i j m. inl m) (λ s t i j m. inr m) (λ s t i j m. m) (rw (e, f) at x) (rw (g, h) at y)
 

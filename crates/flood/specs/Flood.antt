@@ -9,7 +9,8 @@ use mathlib.Core.Logic.{_⊎_}
 use Rattle.cell.specs.declared.Kind.{Kind}
 use Rattle.cell.specs.declared.Kind.the-variants.{Up, Down}
 use Rattle.mask.specs.Mask.{maxMaskLevel}
-use Rattle.rows.specs.Rows.{lit, firstWord, cellsEnd, rowSpots, spot, east}
+use Rattle.rows.specs.Rows.{lit, firstWord, cellsEnd, rowSpots, spot}
+use Rattle.code.specs.Step.{across, east}
 
 -- whether a spot is set, in the rows of up cells or in those of down cells
 abbrev pub litOf : List ℕ → List ℕ → Kind → ℕ → Bool
@@ -39,7 +40,7 @@ Pair p q s i t j = (s ≡ Up) × (t ≡ Up) × (((i ≡ p) × (j ≡ q)) ⊎ ((i
 abbrev pub Edges : ℕ → ℕ → ℕ → Kind → ℕ → Kind → ℕ → Type 0
 Edges k o n s i t j =
     Pair (spot o n (2 ^ k - 1 - n)) (spot (east o) n 0) s i t j
-    ⊎ Pair (spot o 0 n) (spot ((o + 4) % 8) 0 n) s i t j
+    ⊎ Pair (spot o 0 n) (spot (across o) 0 n) s i t j
 
 -- those of an octant in the rows and columns below m, and those of all octants below m
 abbrev pub EdgesOf : ℕ → ℕ → ℕ → Kind → ℕ → Kind → ℕ → Type 0

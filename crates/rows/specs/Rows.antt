@@ -42,10 +42,6 @@ spot o t r = (octantRows * o + t + 2) * rowSpots + r
 unfoldable pub spotIn : ℕ → ℕ → ℕ → ℕ
 spotIn o t r = cond (ltb o 8 && (ltb t octantRows && ltb r rowSpots)) (spot o t r) spotCount
 
--- the octant to the east: 0, 1, 2, 3, 0 and 4, 5, 6, 7, 4
-abbrev pub east : ℕ → ℕ
-east o = o / 4 * 4 + (o + 1) % 4
-
 -- octant, row and column of a spot
 abbrev pub octantAt : ℕ → ℕ
 octantAt i = (i / rowSpots - 2) / octantRows

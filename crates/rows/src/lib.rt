@@ -4,7 +4,8 @@ ghost use mathlib.Core.Bool.{_&&_, _||_};
 ghost use Prim.Native.Nat.{ℕ};
 ghost use lib.Dec.{ltb, eqb};
 ghost use lib.ListN.{getD};
-ghost use Rattle.rows.specs.Rows.{lit, spotCount, spotIn, east};
+ghost use Rattle.rows.specs.Rows.{lit, spotCount, spotIn};
+ghost use Rattle.code.specs.Step.{east};
 ghost use Rattle.rows.specs.Words.{OneOn, OneBack};
 
 // The words of one set of rows: 2,066 rows of five words.

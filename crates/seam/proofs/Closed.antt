@@ -6,7 +6,8 @@ use mathlib.Core.Logic.{_⊎_, inl, inr}
 use native.Mathlib.Omega.{arith}
 use borrow.Author.Tests.{leb-true, leb-false, eqb-true, eqb-false}
 use lib.Dec.{leb, eqb}
-use Rattle.rows.specs.Rows.{octantRows, rowSpots, spot, east, rowAt}
+use Rattle.code.specs.Step.{east}
+use Rattle.rows.specs.Rows.{octantRows, rowSpots, spot, rowAt}
 use Rattle.rows.proofs.Spots.{spot-row}
 use Rattle.seam.specs.declared.edges.Edge.{Edge}
 use Rattle.seam.specs.declared.edges.Edge.the-variants.{Meridian, Beside, Across, Equator}
@@ -130,11 +131,13 @@ east-mod : (q w : ℕ) → w < 4 → (q * 4 + w) % 4 ≡ w
 east-mod q w h = omega arith
 
 east-north : (o : ℕ) → east (o % 4) ≡ east o % 4
+unfolding east
 east-north o =
     let z : o % 4 / 4 * 4 + (o + 1) % 4 ≡ (o + 1) % 4 = omega arith in
     rw (next-mod o, east-mod (o / 4) ((o + 1) % 4) (omega arith)) z
 
 east-south : (o : ℕ) → east (o % 4 + 4) ≡ east o % 4 + 4
+unfolding east
 east-south o =
     let y : (o % 4 + 4) / 4 * 4 ≡ 4 = omega arith in
     let z : (o % 4 + 4 + 1) % 4 ≡ (o % 4 + 1) % 4 = omega arith in
@@ -193,7 +196,7 @@ module _ (n : ℕ) (h : n ≤ 256) (some : 0 < n) (P : ℕ → Bool) where
       ∙ ap₂ (λ (a b : Bool). a || b) (rw y at f) (rw z at s)
 
   meridians-closed : (o t : ℕ) → o < 8 → t < n → after-equator (spot o t (n - t)) ≡ after-equator (spot (east o) t 0)
-  unfolding after-equator
+  unfolding after-equator east
   meridians-closed o zero ho ht =
       equator-both n h after-across o (n - 0) ho (omega arith)
       ∙ ap₂ (λ (a b : Bool). a || b)

@@ -5,7 +5,8 @@ use mathlib.Core.Bool.{Bool}
 use native.Mathlib.Omega.{arith}
 use Rattle.corner.specs.Corner.{corner}
 use Rattle.corner.proofs.Laws.{equator, meridian}
-use Rattle.rows.specs.Rows.{octantRows, rowSpots, spot, east, rowAt, colAt}
+use Rattle.code.specs.Step.{east}
+use Rattle.rows.specs.Rows.{octantRows, rowSpots, spot, rowAt, colAt}
 use Rattle.rows.proofs.Spots.{spot-octant, spot-row, spot-col, spot-same, small, inside-spot}
 use Rattle.seam.specs.Seam.{pointAt}
 use Rattle.seam.specs.declared.edges.Edge.{Edge}
@@ -51,7 +52,7 @@ equator-corner k o r h = equator o (o + 4) (2 ^ k - 0 - r) r (omega arith)
 
 -- both spots of a pair are of one point
 pub group-same : (k : ℕ) → k ≤ 8 → (e : Edge) (x : ℕ) → x < countOf e (2 ^ k) → Same k (firstOf e (2 ^ k) x) (secondOf e (2 ^ k) x)
-unfolding firstOf secondOf countOf
+unfolding firstOf secondOf countOf east
 group-same k h Meridian x l =
     same-spots k (x % 8) (x / 8) (2 ^ k - x / 8) (east (x % 8)) (x / 8) 0 h (omega arith) (omega arith) (omega arith) (omega arith)
     (meridian-corner k (x % 8) (east (x % 8)) (x / 8) (2 ^ k - x / 8) (omega arith) (omega arith) (omega arith))
@@ -104,6 +105,7 @@ module _ (o t r o′ t′ r′ : ℕ → ℕ) (m : ℕ) (fits : (x : ℕ) → x 
 
 -- octants with the same octant to the east are the same
 east-same : (o o′ : ℕ) → east o ≡ east o′ → o ≡ o′
+unfolding east
 east-same o o′ e = omega arith
 
 -- octant and row tell the pair
@@ -112,7 +114,7 @@ same-pair x y a b = omega arith
 
 -- no spot is in two pairs of a group
 pub group-apart : (n : ℕ) → n ≤ 256 → (e : Edge) → Apart (firstOf e n) (secondOf e n) (countOf e n)
-unfolding firstOf secondOf countOf
+unfolding firstOf secondOf countOf east
 group-apart n h Meridian =
     apart-by (λ x. x % 8) (λ x. x / 8) (λ x. n - x / 8) (λ x. east (x % 8)) (λ x. x / 8) (λ x. 0) (8 * n) (λ x l. omega arith)
     (λ x y l l′ a b c. omega arith) (λ x y l l′ a b c. same-pair x y (east-same (x % 8) (y % 8) a) b) (λ x y l l′ a b c. omega arith)

@@ -10,7 +10,8 @@ use lib.Pow.{pow-pos}
 use Rattle.corner.specs.Corner.{Point, coordinate, minus, equatorial, polar, pointIn, corner}
 use Rattle.corner.proofs.Octants.{octant-cases}
 use Rattle.corner.proofs.Laws.{size-minus}
-use Rattle.rows.specs.Rows.{spot, east}
+use Rattle.rows.specs.Rows.{spot}
+use Rattle.code.specs.Step.{east}
 use Rattle.seam.proofs.Groups.{meridian-corner}
 use Rattle.seam.proofs.Closed.{Closed}
 
@@ -109,6 +110,7 @@ module _ (k : ℕ) (Q : ℕ → Bool) (c : Closed (2 ^ k) Q) where
 
   -- on the east edge: off it in the octant to the east
   closed-east : (o t r : ℕ) → o < 8 → 0 < r → t + r ≡ 2 ^ k → Q (spot o t r) ≡ Q (home (corner k o t r))
+  unfolding east
   closed-east o t r ho hr e =
       let z : 2 ^ k - t ≡ r = omega arith in
       rw z at (c .meridians o t ho (omega arith))

@@ -2,7 +2,8 @@
 use Prim.Native.Nat.{ℕ, zero, suc, _+_, _*_, _-_, _/_, _%_}
 use mathlib.Core.Bool.{Bool, _||_, cond}
 use lib.Dec.{eqb}
-use Rattle.rows.specs.Rows.{spot, east}
+use Rattle.rows.specs.Rows.{spot}
+use Rattle.code.specs.Step.{east}
 use Rattle.seam.specs.declared.edges.Edge.{Edge}
 use Rattle.seam.specs.declared.edges.Edge.the-variants.{Meridian, Beside, Across, Equator}
 

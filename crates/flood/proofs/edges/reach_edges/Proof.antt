@@ -4,7 +4,8 @@ use mathlib.Core.Path.{_≡_, ap, _∙_}
 use native.Mathlib.Omega.{arith}
 use borrow.Author.Needs.{needs}
 use lib.Pow.{pow-pos}
-use Rattle.rows.specs.Rows.{spotCount, spot, spotIn, east}
+use Rattle.rows.specs.Rows.{spotCount, spot, spotIn}
+use Rattle.code.specs.Step.{across, east}
 use Rattle.rows.proofs.Spots.{size-shifted, size-low, spot-told}
 use Rattle.flood.proofs.Crossing.{turn-edges}
 use Rattle.flood.proofs.edges.reach_edges.Statement.{statement}
@@ -30,6 +31,7 @@ east-cell c =
     spot-told (a .octant) (a .n) (2 ^ a .level - 1 - a .n) r (omega arith) (omega arith) (omega arith)
 
 west-cell : (c : tie.After-spot-of2) → let a = c .before .before .before .args in Is (c .spot-of2 .result) (east (a .octant)) (a .n) 0
+unfolding east
 west-cell c =
     let e = c .before .before .before in
     let a = e .args in
@@ -43,11 +45,12 @@ here-cell c =
     let l = low e in
     spot-told (e .args .octant) 0 (e .args .n) (c .spot-of3 .ensures) (omega arith) (omega arith) (omega arith)
 
-across-cell : (c : tie.After-spot-of4) → let a = c .before .before .before .before .before .before .before .args in Is (c .spot-of4 .result) ((a .octant + 4) % 8) 0 (a .n)
+across-cell : (c : tie.After-spot-of4) → let a = c .before .before .before .before .before .before .before .args in Is (c .spot-of4 .result) (across (a .octant)) 0 (a .n)
+unfolding across
 across-cell c =
     let e = c .before .before .before .before .before .before .before in
     let l = low e in
-    spot-told ((e .args .octant + 4) % 8) 0 (e .args .n) (c .spot-of4 .ensures) (omega arith) (omega arith) (omega arith)
+    spot-told (across (e .args .octant)) 0 (e .args .n) (c .spot-of4 .ensures) (omega arith) (omega arith) (omega arith)
 
 sub-spot-of : tie.Need-sub-spot-of
 sub-spot-of c = omega (arith, size c, pow-pos (c .args .level))

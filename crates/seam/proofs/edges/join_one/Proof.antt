@@ -3,7 +3,8 @@ use Prim.Native.Nat.{ℕ, _/_, _%_, _<_}
 use mathlib.Core.Path.{_≡_, ap, _∙_}
 use native.Mathlib.Omega.{arith}
 use borrow.Author.Needs.{needs}
-use Rattle.rows.specs.Rows.{spotCount, spotIn, east}
+use Rattle.rows.specs.Rows.{spotCount, spotIn}
+use Rattle.code.specs.Step.{east}
 use Rattle.rows.proofs.Spots.{spot-told}
 use Rattle.seam.specs.declared.edges.Edge.{Edge}
 use Rattle.seam.specs.declared.edges.Edge.the-variants.{Meridian, Beside, Across, Equator}
@@ -33,7 +34,7 @@ equator-pair c = let s = c .before .before in told (s .args .edge) _ (s .args .s
 meridian-spots : (c : tie.After-spot-of2) →
     let a = c .before .before .before .before .before .before .args in
     Spots Meridian (a .size) (a .pair) (c .before .spot-of .result) (c .spot-of2 .result)
-unfolding firstOf secondOf countOf
+unfolding firstOf secondOf countOf east
 meridian-spots c =
     let t = c .before .before .before in
     let h = meridian-pair (t .before) in
