@@ -69,9 +69,6 @@ long s =
     let f = s .before .before .before .before .find-codes in
     length-take-le (length (entry s .args .cells .now) - 1) (f .last .1 .1 .0) (omega (arith, f .kept .1 .1 .0))
 
-slice-aggregate-put : tie.Need-slice-aggregate-put
-slice-aggregate-put c = sym (long c)
-
 put-requires : tie.Need-put-requires
 put-requires c κs =
     let s = c .before in
@@ -97,7 +94,7 @@ write-spec =
     (λ c. search needs) (λ c κs. search needs)
     returns-5
     (λ c. search needs) (λ c. search needs)
-    slice-aggregate-put
+    (λ c. sym (long c))
     put-requires
     (λ c. search needs)
     returns-6)

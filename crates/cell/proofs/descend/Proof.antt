@@ -19,9 +19,6 @@ side k h = shifted 32 k (omega arith)
 side-pos : (k : ℕ) → k ≤ maxLevel → 0 < 1 * 2 ^ k % 2 ^ 32
 side-pos k h = rw (side k h) (pow-pos k)
 
-sub-all : tie.Need-sub-all
-sub-all c = side-pos (c .args .level) (c .pre)
-
 rem-high : tie.Need-rem-high
 rem-high c = side-pos (c .before .before .args .level) (c .before .before .pre)
 
@@ -67,7 +64,7 @@ descend-spec =
     tie.close
     (tie.spec
     (λ c. search needs) (λ c. search needs) (λ c. search needs)
-    sub-all
+    (λ c. side-pos (c .args .level) (c .pre))
     (λ c κs. search needs)
     rem-high
     rem-low

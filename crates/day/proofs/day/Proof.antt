@@ -40,9 +40,6 @@ refused-told c =
     day-refused (a .level) (a .limit) (a .new .now) (a .clouds .now) (a .temperatures .now) (a .ages .now) _ _ (c .before .n .given .1)
     (c .before .before .before .day-tests .ensures)
 
-returns : tie.Need-returns
-returns c = search refused-told
-
 returns-2 : tie.Need-returns-2
 returns-2 c =
     let w = c .before .before .before .before in
@@ -61,6 +58,6 @@ day-spec =
     (λ c κs. search needs) (λ c. search needs) (λ c. search needs)
     rewrite-requires
     (λ c. search needs) (λ c. search needs)
-    returns
+    (λ c. search refused-told)
     (λ c. search needs) (λ c. search needs)
     returns-2)

@@ -9,9 +9,6 @@ use Rattle.fill.proofs.Answers.{ready, fill-refused, fill-done}
 use Rattle.fill.proofs.fill.Statement.{statement}
 use Rattle.fill.proofs.fill.Tie as tie
 
-returns : tie.Need-returns
-returns c = search fill-refused
-
 abbrev entry : tie.After-enum-told → tie.Start
 entry c = c .before .before .before .before .before .before
 
@@ -40,6 +37,6 @@ fill-spec =
     (λ c κs. search needs) (λ c. search needs) (λ c. search needs)
     reach-all-requires
     (λ c κs. search needs) (λ c. search needs)
-    returns
+    (λ c. search fill-refused)
     (λ c. search needs)
     returns-2)

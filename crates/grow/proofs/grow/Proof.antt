@@ -10,12 +10,6 @@ grow-into-requires c κs =
     let a = t .before .before .before .before .before .before .before .before .args in
     rings-ready (a .level) (a .rings) (a .mask .now) (a .out .now) (a .work .now) _ (t .enum-told .given .1) (t .before .before .ring-tests .ensures)
 
-returns : tie.Need-returns
-returns c = search rings-refused
-
-returns-2 : tie.Need-returns-2
-returns-2 c = search rings-done
-
 pub grow-spec : {M : Type 1} → statement M
 grow-spec =
     tie.close
@@ -24,6 +18,6 @@ grow-spec =
     (λ c. search needs) (λ c. search needs)
     grow-into-requires
     (λ c. search needs) (λ c. search needs)
-    returns
+    (λ c. search rings-refused)
     (λ c. search needs) (λ c. search needs)
-    returns-2)
+    (λ c. search rings-done))

@@ -10,12 +10,6 @@ shrink-into-requires c κs =
     let a = t .before .before .before .before .before .before .before .before .args in
     rings-ready (a .level) (a .rings) (a .mask .now) (a .out .now) (a .work .now) _ (t .enum-told .given .1) (t .before .before .ring-tests .ensures)
 
-returns : tie.Need-returns
-returns c = search rings-refused
-
-returns-2 : tie.Need-returns-2
-returns-2 c = search rings-done
-
 pub shrink-spec : {M : Type 1} → statement M
 shrink-spec =
     tie.close
@@ -23,6 +17,6 @@ shrink-spec =
     (λ c κs. search needs) (λ c. search needs) (λ c. search needs)
     shrink-into-requires
     (λ c. search needs) (λ c. search needs)
-    returns
+    (λ c. search rings-refused)
     (λ c. search needs) (λ c. search needs)
-    returns-2)
+    (λ c. search rings-done))

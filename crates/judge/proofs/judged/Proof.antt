@@ -19,12 +19,6 @@ full-stays answer expected s w = record { equal = λ r e. no-room w r; other = �
     no-room (inl h) r = absurd (omega (arith, r .0))
     no-room (inr h) r = absurd (omega (arith, r .1))
 
-returns : tie.Need-returns
-returns c = full-stays _ _ _ (inl (omega arith))
-
-returns-2 : tie.Need-returns-2
-returns-2 c = full-stays _ _ _ (inr (omega arith))
-
 returns-3 : tie.Need-returns-3
 returns-3 c = record {
   equal = λ r e. refl;
@@ -52,4 +46,4 @@ returns-4 c = record {
     room (inr h) = absurd (omega arith)
 
 pub judged-spec : {M : Type 1} → statement M
-judged-spec = tie.close (tie.spec returns returns-2 (λ c. search needs) (λ c κs. search needs) (λ c. search needs) returns-3 returns-4)
+judged-spec = tie.close (tie.spec (λ c. full-stays _ _ _ (inl (omega arith))) (λ c. full-stays _ _ _ (inr (omega arith))) (λ c. search needs) (λ c κs. search needs) (λ c. search needs) returns-3 returns-4)

@@ -20,9 +20,6 @@ told c = sym (ap saidOutcome (c .enum-told .given .1)) ∙ c .before .before .is
 is : (c : tie.After-enum-told) → IsMask (entry c .args .level) (entry c .args .mask .now)
 is c = is-mask _ _ (told c)
 
-sum-ones-requires : tie.Need-sum-ones-requires
-sum-ones-requires c κs = is c .short
-
 returns : tie.Need-returns
 returns c =
     let a = c .before .before .before .before .before .args in
@@ -36,4 +33,4 @@ returns-2 c =
 pub count-spec : {M : Type 1} → statement M
 count-spec =
     tie.close
-    (tie.spec (λ c κs. search needs) (λ c. search needs) (λ c. search needs) sum-ones-requires returns returns-2)
+    (tie.spec (λ c κs. search needs) (λ c. search needs) (λ c. search needs) (λ c κs. is c .short) returns returns-2)

@@ -8,9 +8,6 @@ use Rattle.mask.proofs.Answers.{joinable, join-refused, join-given}
 use Rattle.mask.proofs.join.Statement.{statement}
 use Rattle.mask.proofs.join.Tie as tie
 
-returns : tie.Need-returns
-returns c = search join-refused
-
 abbrev entry : tie.After-enum-told → tie.Start
 entry c = c .before .before .before .before .before .before .before
 
@@ -37,6 +34,6 @@ join-spec =
     (λ c κs. search needs) (λ c. search needs) (λ c. search needs)
     join-bytes-requires
     (λ c. search needs)
-    returns
+    (λ c. search join-refused)
     (λ c. search needs)
     returns-2)

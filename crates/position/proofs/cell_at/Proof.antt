@@ -48,12 +48,6 @@ past c =
     let north = le-ltb q (natAbs (entry c .args .latitude .0)) (omega (arith, s .from-equator .ensures)) in
     (le-ltb _ _ (s .before .if1 .left), (north, (sym (w .longitude-out .ensures) ∙ c .if3 .left, tt)))
 
-octant-of-requires : tie.Need-octant-of-requires
-octant-of-requires c κs = past c .1 .1 .0
-
-from-west-requires : tie.Need-from-west-requires
-from-west-requires c κs = past (c .before) .1 .1 .0
-
 -- the place of a position, by its octant, its distance from the equator and its longitude counted from the west
 position : (k : ℕ) (y x : ℤ) (o p w : ℕ) → o ≡ octant y x → p ≡ natAbs y → w ≡ fromWest x → (o, triangleAt k p (w % q)) ≡ placeAt k y x
 unfolding placeAt offset
@@ -90,8 +84,8 @@ cell-at-spec =
     (λ c κs. search needs) (λ c κs. search needs)
     returns-2
     returns-3
-    octant-of-requires
-    from-west-requires
+    (λ c κs. past c .1 .1 .0)
+    (λ c κs. past (c .before) .1 .1 .0)
     (λ c κs. omega arith) (λ c κs. search needs) (λ c. search needs) (λ c. search needs)
     returns-4
     returns-5)

@@ -21,9 +21,6 @@ put-marked-requires c κs =
 a-block : (c : tie.Else1) → let a = c .before .before .args in (a .n < cells (a .level - 3)) × (8 * a .n + 8 ≤ length (a .mask .now))
 a-block c = let s = c .before .before in block-piece (s .args .level) (s .args .n) (length (s .args .mask .now)) (c .if1 .left) (s .pre .1) (s .pre .2)
 
-word-at-requires : tie.Need-word-at-requires
-word-at-requires c κs = a-block c .1
-
 put-block-requires : tie.Need-put-block-requires
 put-block-requires c κs =
     let t = c .before .before .before .before in
@@ -67,4 +64,4 @@ returns-3 c =
 pub put-piece-spec : {M : Type 1} → statement M
 put-piece-spec =
     tie.close
-    (tie.spec put-marked-requires word-at-requires put-block-requires returns returns-2 returns-3)
+    (tie.spec put-marked-requires (λ c κs. a-block c .1) put-block-requires returns returns-2 returns-3)

@@ -26,9 +26,6 @@ block-at-requires c κs =
     let t = c .before in
     (t .if1 .left, t .before .before .pre .0 .0, a-block t .0)
 
-store-word-requires : tie.Need-store-word-requires
-store-word-requires c κs = a-block (c .before .before) .1
-
 returns : tie.Need-returns
 returns c x =
     let k = c .before .before in
@@ -55,7 +52,7 @@ take-piece-spec =
     (tie.spec
     take-cell-requires
     block-at-requires
-    store-word-requires
+    (λ c κs. a-block (c .before .before) .1)
     (λ c. search needs)
     returns
     (λ c. search needs)

@@ -4,8 +4,5 @@ use borrow.Author.Needs.{needs}
 use Rattle.step.proofs.found_if.Statement.{statement}
 use Rattle.step.proofs.found_if.Tie as tie
 
-returns : tie.Need-returns
-returns c = simp (c .if1 .taken)
-
 pub found-if-spec : {M : Type 1} → statement M
-found-if-spec = tie.close (tie.spec returns (λ c. search needs))
+found-if-spec = tie.close (tie.spec (λ c. simp (c .if1 .taken)) (λ c. search needs))

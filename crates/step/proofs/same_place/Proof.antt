@@ -5,9 +5,6 @@ use borrow.Author.Needs.{needs}
 use Rattle.step.proofs.same_place.Statement.{statement}
 use Rattle.step.proofs.same_place.Tie as tie
 
-returns : tie.Need-returns
-returns c = simp (ne-eqb _ _ (c .if1 .taken))
-
 returns-2 : tie.Need-returns-2
 returns-2 c = simp (eq-eqb _ _ (c .before .before .before .if1 .left), ne-eqb _ _ (c .if2 .taken))
 
@@ -23,4 +20,4 @@ returns-4 c =
     simp (eq-eqb _ _ (s .before .before .before .if1 .left), eq-eqb _ _ (s .if2 .left), eq-eqb _ _ (t .if3 .left), c .same-kind .ensures)
 
 pub same-place-spec : {M : Type 1} → statement M
-same-place-spec = tie.close (tie.spec returns returns-2 returns-3 (λ c κs. search needs) returns-4)
+same-place-spec = tie.close (tie.spec (λ c. simp (ne-eqb _ _ (c .if1 .taken))) returns-2 returns-3 (λ c κs. search needs) returns-4)

@@ -29,12 +29,6 @@ second-told : (c : tie.After-byte-at2) →
     c .byte-at2 .result ≡ getD (a .bytes .now) (3 * a .i / 8 + 1) 0
 second-told c = c .byte-at2 .ensures
 
-mul-both : tie.Need-mul-both
-mul-both c = omega (arith, second c)
-
-add-both : tie.Need-add-both
-add-both c = omega (arith, first c, second c)
-
 returns : tie.Need-returns
 returns c =
     let a = c .before .before .before .args in
@@ -46,7 +40,7 @@ code-at-spec =
     tie.close
     (tie.spec
     (λ c. search needs) (λ c κs. search needs) (λ c. search needs) (λ c κs. search needs)
-    mul-both
-    add-both
+    (λ c. omega (arith, second c))
+    (λ c. omega (arith, first c, second c))
     (λ c. search needs) (λ c. search needs) (λ c. search needs)
     returns)

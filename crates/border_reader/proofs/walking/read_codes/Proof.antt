@@ -57,9 +57,6 @@ returns-4 c =
     let a = entry s .args in
     no-room (a .bytes .now) (a .cells .now) _ _ _ _ (whole s) (ltb-true _ _ (sym (padded-told s) ∙ not-false _ (c .before .if3 .left))) (omega arith)
 
-walk-requires : tie.Need-walk-requires
-walk-requires c κs = (omega arith, omega arith)
-
 -- the state in which the padding is tested
 abbrev tested : tie.After-walk → tie.After-is-padded
 tested w = w .before .before .before .before
@@ -107,7 +104,7 @@ read-codes-spec =
     returns-3
     returns-4
     (λ c. search needs)
-    walk-requires
+    (λ c κs. (omega arith, omega arith))
     returns-5
     (λ c. search needs) (λ c. search needs)
     copy-cells-requires

@@ -25,17 +25,8 @@ short s =
     let a = s .before .before .before .before .before .args in
     omega (arith, numeral-length (a .level) .1, numeral-length (a .start) .1, numeral-length (length (a .codes .now)) .1)
 
-add-after-count : tie.Need-add-after-count
-add-after-count c = omega (arith, short c)
-
-add-length-2 : tie.Need-add-length-2
-add-length-2 c = omega (arith, short c)
-
 returns : tie.Need-returns
 returns c = let a = c .before .before .before .before .before .before .args in no-room (a .level) (a .start) (a .codes .now) (a .out .now) (omega arith)
-
-pack-requires : tie.Need-pack-requires
-pack-requires c κs = (search needs, omega arith)
 
 returns-2 : tie.Need-returns-2
 returns-2 c =
@@ -60,12 +51,12 @@ put-spec =
     (λ c. search needs) (λ c κs. search needs) (λ c κs. search needs)
     add-after-start
     (λ c κs. search needs)
-    add-after-count
+    (λ c. omega (arith, short c))
     (λ c. search needs) (λ c. search needs)
-    add-length-2
+    (λ c. omega (arith, short c))
     returns
     (λ c κs. search needs) (λ c κs. search needs) (λ c κs. search needs)
-    pack-requires
+    (λ c κs. (search needs, omega arith))
     cast-t25
     (λ c. search needs)
     returns-2)

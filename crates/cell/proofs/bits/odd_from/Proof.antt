@@ -3,8 +3,5 @@ use Rattle.cell.proofs.Odd.{odd-from}
 use Rattle.cell.proofs.bits.odd_from.Statement.{statement}
 use Rattle.cell.proofs.bits.odd_from.Tie as tie
 
-returns : tie.Need-returns
-returns c = λ k h l. odd-from k (c .args .x) h l
-
 pub odd-from-spec : {M : Type 1} → statement M
-odd-from-spec = tie.close (tie.spec returns)
+odd-from-spec = tie.close (tie.spec (λ c. λ k h l. odd-from k (c .args .x) h l))

@@ -23,11 +23,8 @@ sum c = rw (same-number (c .beginning-of .result) (c .beginning-of .ok), c .begi
 fits : (c : tie.After-beginning-of) → mag (beginning (c .before .args .octant) +ℤ pos (c .before .args .m)) < 2 ^ 31
 fits c = let a = c .before .args in inside-fits (beginning (a .octant) +ℤ pos (a .m)) (beginning-inside (a .octant) (a .m) (c .before .pre))
 
-add-x : tie.Need-add-x
-add-x c = rw (sum c) (record { sfits = fits c })
-
 returns : tie.Need-returns
 returns c = ap (λ (z : ℤ). toZ w32 (ofZ w32 z)) (sum c) ∙ same-number (beginning (c .before .args .octant) +ℤ pos (c .before .args .m)) (fits c)
 
 pub longitude-of-spec : {M : Type 1} → statement M
-longitude-of-spec = tie.close (tie.spec (λ c. search needs) (λ c κs. search needs) add-x returns)
+longitude-of-spec = tie.close (tie.spec (λ c. search needs) (λ c κs. search needs) (λ c. rw (sum c) (record { sfits = fits c })) returns)

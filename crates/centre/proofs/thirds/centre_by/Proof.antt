@@ -11,35 +11,11 @@ use Rattle.centre.proofs.thirds.centre_by.Tie as tie
 few : (c : tie.Start) → 2 ^ c .args .level ≤ 2 ^ maxLevel
 few c = pow-mono {i = c .args .level} {j = maxLevel} (c .pre .0)
 
-mul-above : tie.Need-mul-above
-mul-above c = omega (arith, few c)
-
-add-above : tie.Need-add-above
-add-above c = omega (arith, few c)
-
-mul-beside : tie.Need-mul-beside
-mul-beside c = omega (arith, few c)
-
-add-beside : tie.Need-add-beside
-add-beside c = omega (arith, few c)
-
-centre-p-requires : tie.Need-centre-p-requires
-centre-p-requires c κs = omega (arith, few c)
-
 -- p is below q
 low : (c : tie.After-centre-p) → c .centre-p .result < q
 low c =
     let a = c .before .args in
     rw (c .centre-p .ensures) (p-of-below (2 ^ a .level) (3 * a .row + a .s) (3 * a .col + a .s) (pow-pos (a .level)) (omega arith))
-
-sub-rest : tie.Need-sub-rest
-sub-rest c = omega (arith, low c)
-
-centre-m-requires : tie.Need-centre-m-requires
-centre-m-requires c κs = omega (arith, low c)
-
-latitude-of-requires : tie.Need-latitude-of-requires
-latitude-of-requires c κs = low (c .before)
 
 east : (c : tie.After-centre-m) → c .centre-m .result < q
 east c =
@@ -60,13 +36,13 @@ pub centre-by-spec : {M : Type 1} → statement M
 centre-by-spec =
     tie.close
     (tie.spec
-    mul-above
-    add-above
-    mul-beside
-    add-beside
-    centre-p-requires
-    sub-rest
-    centre-m-requires
-    latitude-of-requires
+    (λ c. omega (arith, few c))
+    (λ c. omega (arith, few c))
+    (λ c. omega (arith, few c))
+    (λ c. omega (arith, few c))
+    (λ c κs. omega (arith, few c))
+    (λ c. omega (arith, low c))
+    (λ c κs. omega (arith, low c))
+    (λ c κs. low (c .before))
     longitude-of-requires
     returns)

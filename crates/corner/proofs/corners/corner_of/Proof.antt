@@ -19,18 +19,6 @@ use Rattle.corner.proofs.corners.corner_of.Tie as tie
 rows : (c : tie.Start) → (1 * 2 ^ (c .args .level) % 2 ^ 32 ≡ 2 ^ (c .args .level)) × (2 ^ (c .args .level) ≤ 2 ^ maxLevel)
 rows c = (shifted 32 (c .args .level) (omega (arith, c .pre .0)), pow-mono {i = c .args .level} {j = maxLevel} (c .pre .0))
 
-sub-l : tie.Need-sub-l
-sub-l c = omega (arith, rows c)
-
-sub-l-2 : tie.Need-sub-l-2
-sub-l-2 c = omega (arith, rows c)
-
-first-number-requires : tie.Need-first-number-requires
-first-number-requires c κs = omega (arith, rows c)
-
-first-number-requires-2 : tie.Need-first-number-requires-2
-first-number-requires-2 c κs = omega (arith, rows (c .before))
-
 signed-requires : tie.Need-signed-requires
 signed-requires c κs = omega (arith, rows (c .before .before))
 
@@ -52,10 +40,10 @@ corner-of-spec =
     tie.close
     (tie.spec
     (λ c. search needs)
-    sub-l
-    sub-l-2
-    first-number-requires
+    (λ c. omega (arith, rows c))
+    (λ c. omega (arith, rows c))
+    (λ c κs. omega (arith, rows c))
     (λ c. search needs)
-    first-number-requires-2
+    (λ c κs. omega (arith, rows (c .before)))
     signed-requires
     returns)

@@ -25,12 +25,6 @@ down-inside :
 unfolding span
 down-inside c = let s = c .before .before in (rw (c .enum-told2 .given .1) at (s .pre .1 .1), rows-bound (s .args .level) (s .pre .0))
 
-corner-of-requires : tie.Need-corner-of-requires
-corner-of-requires c κs = omega (arith, up-inside c)
-
-add-corner-of : tie.Need-add-corner-of
-add-corner-of c = omega (arith, up-inside (c .before))
-
 corner-of-requires-2 : tie.Need-corner-of-requires-2
 corner-of-requires-2 c κs = omega (arith, up-inside (c .before))
 
@@ -39,15 +33,6 @@ add-corner-of-2 c = omega (arith, up-inside (c .before .before))
 
 corner-of-requires-3 : tie.Need-corner-of-requires-3
 corner-of-requires-3 c κs = omega (arith, up-inside (c .before .before))
-
-add-corner-of-3 : tie.Need-add-corner-of-3
-add-corner-of-3 c = omega (arith, down-inside c)
-
-corner-of-requires-4 : tie.Need-corner-of-requires-4
-corner-of-requires-4 c κs = omega (arith, down-inside c)
-
-add-corner-of-4 : tie.Need-add-corner-of-4
-add-corner-of-4 c = omega (arith, down-inside (c .before))
 
 corner-of-requires-5 : tie.Need-corner-of-requires-5
 corner-of-requires-5 c κs = omega (arith, down-inside (c .before))
@@ -78,15 +63,15 @@ corners-of-spec =
     tie.close
     (tie.spec
     (λ c. search needs)
-    corner-of-requires
-    add-corner-of
+    (λ c κs. omega (arith, up-inside c))
+    (λ c. omega (arith, up-inside (c .before)))
     corner-of-requires-2
     add-corner-of-2
     corner-of-requires-3
     (λ c. search needs)
-    add-corner-of-3
-    corner-of-requires-4
-    add-corner-of-4
+    (λ c. omega (arith, down-inside c))
+    (λ c κs. omega (arith, down-inside c))
+    (λ c. omega (arith, down-inside (c .before)))
     corner-of-requires-5
     add-corner-of-5
     add-corner-of-6

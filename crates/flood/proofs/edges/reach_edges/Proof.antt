@@ -55,9 +55,6 @@ across-cell c =
 sub-spot-of : tie.Need-sub-spot-of
 sub-spot-of c = omega (arith, size c, pow-pos (c .args .level))
 
-sub-spot-of-2 : tie.Need-sub-spot-of-2
-sub-spot-of-2 c = omega (arith, size c)
-
 reach-pair-requires : tie.Need-reach-pair-requires
 reach-pair-requires c κs = let w = c .before in (east-cell (w .before .before) .1, west-cell w .1)
 
@@ -80,7 +77,7 @@ reach-edges-spec =
     (tie.spec
     (λ c. search needs)
     sub-spot-of
-    sub-spot-of-2
+    (λ c. omega (arith, size c))
     (λ c κs. search needs) (λ c κs. search needs) (λ c κs. search needs)
     reach-pair-requires
     (λ c κs. search needs) (λ c. search needs) (λ c κs. search needs)

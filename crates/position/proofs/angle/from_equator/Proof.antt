@@ -43,9 +43,6 @@ returns : tie.Need-returns
 returns c = let y = toZ w32 (ofZ w32 (c .before .before .args .latitude .0)) in
     rw (south c) (size-negative y (c .if1 .taken) ∙ ap natAbs (read (c .before) .0))
 
-returns-2 : tie.Need-returns-2
-returns-2 c = ap natAbs (read (c .before) .0)
-
 pub from-equator-spec : {M : Type 1} → statement M
 from-equator-spec =
-    tie.close (tie.spec sub-result cast-result add-result cast-result-2 returns returns-2)
+    tie.close (tie.spec sub-result cast-result add-result cast-result-2 returns (λ c. ap natAbs (read (c .before) .0)))

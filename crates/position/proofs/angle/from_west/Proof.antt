@@ -29,8 +29,5 @@ add-result c = rw (sum c) (record { sfits = omega (arith, from-west (c .before .
 cast-result : tie.Need-cast-result
 cast-result c = rw (whole c) (tt, omega (arith, from-west (c .before .args .longitude .0) (c .before .pre) .1))
 
-returns : tie.Need-returns
-returns c = ap natAbs (whole c)
-
 pub from-west-spec : {M : Type 1} → statement M
-from-west-spec = tie.close (tie.spec add-result cast-result returns)
+from-west-spec = tie.close (tie.spec add-result cast-result (λ c. ap natAbs (whole c)))

@@ -21,17 +21,8 @@ room c =
     let d : q - p ≤ q = omega arith in
     (mul-le-mul (c .rows-of .ensures .2) hp, omega (arith, mul-le-mul hm d))
 
-mul-high : tie.Need-mul-high
-mul-high c = omega (arith, room c .0)
-
-mul-share-of : tie.Need-mul-share-of
-mul-share-of c = omega (arith, room c .1)
-
 share-of-requires : tie.Need-share-of-requires
 share-of-requires c κs = (c .before .pre .0, c .rows-of .ensures .0, omega (arith, room c .1))
-
-cast-row : tie.Need-cast-row
-cast-row c = omega (arith, room (c .before) .0)
 
 cast-col : tie.Need-cast-col
 cast-col c = omega (arith, mul-le-mul (c .before .before .rows-of .ensures .2) (room (c .before .before) .1))
@@ -57,11 +48,11 @@ holder-of-spec =
     tie.close
     (tie.spec
     (λ c κs. search needs)
-    mul-high
+    (λ c. omega (arith, room c .0))
     (λ c. search needs)
-    mul-share-of
+    (λ c. omega (arith, room c .1))
     share-of-requires
-    cast-row
+    (λ c. omega (arith, room (c .before) .0))
     cast-col
     (λ c. search needs) (λ c. search needs)
     returns

@@ -4,8 +4,5 @@ use Rattle.position.proofs.Laws.{rows-shifted}
 use Rattle.position.proofs.place.rows_of.Statement.{statement}
 use Rattle.position.proofs.place.rows_of.Tie as tie
 
-returns : tie.Need-returns
-returns c = rows-shifted (c .args .level) (c .pre)
-
 pub rows-of-spec : {M : Type 1} → statement M
-rows-of-spec = tie.close (tie.spec (λ c. search needs) returns)
+rows-of-spec = tie.close (tie.spec (λ c. search needs) (λ c. rows-shifted (c .args .level) (c .pre)))

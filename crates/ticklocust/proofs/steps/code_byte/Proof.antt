@@ -6,11 +6,5 @@ use borrow.Author.Needs.{needs}
 use Rattle.ticklocust.proofs.steps.code_byte.Statement.{statement}
 use Rattle.ticklocust.proofs.steps.code_byte.Tie as tie
 
-returns : tie.Need-returns
-returns c = inl refl
-
-returns-2 : tie.Need-returns-2
-returns-2 c = inr (omega arith, omega arith)
-
 pub code-byte-spec : {M : Type 1} → statement M
-code-byte-spec = tie.close (tie.spec (λ c. search needs) returns returns-2)
+code-byte-spec = tie.close (tie.spec (λ c. search needs) (λ c. inl refl) (λ c. inr (omega arith, omega arith)))

@@ -15,8 +15,5 @@ equals-itself nan e = clash e refl
 equals-itself (inf s) e = tt
 equals-itself (fin s m d) e = tt
 
-float-to-bits-result : tie.Need-float-to-bits-result
-float-to-bits-result c = equals-itself _ (c .if1 .taken)
-
 pub bits-of-spec : {M : Type 1} → statement M
-bits-of-spec = tie.close (tie.spec float-to-bits-result (λ c. search needs) (λ c. search needs))
+bits-of-spec = tie.close (tie.spec (λ c. equals-itself _ (c .if1 .taken)) (λ c. search needs) (λ c. search needs))

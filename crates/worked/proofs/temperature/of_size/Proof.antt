@@ -16,8 +16,5 @@ no-nan n h =
     let m : n % 2147483648 ≤ 2139095040 = omega arith in
     rw (nanBits-above, le-ltb 2139095040 (n % 2147483648) m) tt
 
-float-from-bits-result : tie.Need-float-from-bits-result
-float-from-bits-result c = no-nan _ (search needs)
-
 pub of-size-spec : {M : Type 1} → statement M
-of-size-spec = tie.close (tie.spec (λ c. search needs) float-from-bits-result (λ c. search needs))
+of-size-spec = tie.close (tie.spec (λ c. search needs) (λ c. no-nan _ (search needs)) (λ c. search needs))
