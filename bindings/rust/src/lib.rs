@@ -3,8 +3,8 @@
 //! `libticklocust.a`.
 //!
 //! Each function makes one call of `include/ticklocust.h` and has its name there. It returns its
-//! result or a [`Refusal`], whose number is that of document 01's table; a refused call leaves
-//! every slice as it was. Nothing is allocated and no state is kept between calls, so several
+//! result or a [`Refusal`], whose number is that of the table in docs/RULES.md, 9; a refused call
+//! leaves every slice as it was. Nothing is allocated and no state is kept between calls, so several
 //! threads may call at once, each with its own slices.
 //!
 //! - Places: [`cell_at`] and [`centre`], with [`Latitude`] and [`Longitude`] as separate types;
