@@ -32,7 +32,7 @@ fn readings_have_kind_degrees_days_and_date() {
     for (cell, said) in said.iter().enumerate() {
         folder.prints(&format!("reading {cell} c"), &format!("{said}\n"));
     }
-    assert!(folder.refused("reading 8 c", 4).ends_with("(level 0)"));
+    assert!(folder.refused("reading 8 c", 4).ends_with("(level 0 has 8 cells)"));
     let said = folder.run(&["reading", "2", "-"], &folder.get("c"));
     assert_eq!(said.out, "carried 21.5 °C, 30 days, chart of 2026-03-08\n".as_bytes());
 }

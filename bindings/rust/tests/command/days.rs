@@ -86,7 +86,7 @@ fn refused_days() {
     folder.put("short", &floats(&[21.0; 7]));
     let day = |options: &str| format!("day --date 2026-03-09 {options} c");
     let sentence = folder.refused(&day("--rings 0 --limit 2 short cloud"), 5);
-    assert!(sentence.ends_with("(level 0; short has 28 bytes, cloud has 1 bytes)"), "{sentence}");
+    assert!(sentence.ends_with("(level 0; short has 28 bytes, cloud has 1 byte)"), "{sentence}");
     folder.refused(&day("--rings 0 --limit 2 news t"), 5);
     assert_eq!(
         folder.refused(&day("--rings 65 --limit 2 news cloud"), 6),

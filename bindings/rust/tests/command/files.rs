@@ -1,7 +1,9 @@
 //! Standard input and output, files written whole or not at all, pipes that break.
 
+use std::ffi::OsStr;
 use std::fs;
 use std::io::Write;
+use std::os::unix::ffi::OsStrExt;
 use std::os::unix::fs::{symlink, PermissionsExt};
 use std::process::Stdio;
 
@@ -97,6 +99,27 @@ fn redirected_streams_are_known() {
         assert_eq!(output.status.code(), Some(2), "{script}");
         assert_eq!(folder.all(), before, "{script}");
     }
+}
+
+#[test]
+fn what_a_redirected_file_had_stays() {
+    let folder = Folder::new();
+    folder.put("m", &[1]);
+    folder.put("log", b"older ");
+    let status = folder.shell("\"$0\" grow --rings 1 m /dev/stdout >>log", &[]).status().unwrap();
+    assert_eq!((status.code(), folder.get("log")), (Some(0), b"older \xBF".to_vec()));
+}
+
+#[test]
+fn names_need_not_be_text() {
+    let folder = Folder::new();
+    folder.prints("chart new --level 0 --date 2026-03-08 c", "");
+    folder.put("news", &[0; 32]);
+    folder.put("cloud", &[0]);
+    let mut command = folder.command(&["day", "--rings=0", "--limit=1", "--date=2026-03-09"]);
+    command.args(["news", "cloud", "c"]).arg(OsStr::from_bytes(b"--to=\xFF"));
+    assert_eq!(command.stdout(Stdio::null()).status().unwrap().code(), Some(0));
+    assert_eq!(fs::read(folder.0.join(OsStr::from_bytes(b"\xFF"))).unwrap().len(), 76);
 }
 
 #[test]

@@ -18,6 +18,8 @@ fn worked_masks() {
     folder.prints("within a joined", "yes\n");
     let said = folder.run(&["within", "joined", "a"], &[]);
     assert_eq!((said.status, said.out, said.err.as_str()), (1, b"no 18\n".to_vec(), ""));
+    folder.wrong_line("within a absent", "absent: No such file");
+    folder.refused("within a one", 5);
     folder.put("border", &[0b0001_1010]);
     folder.prints("fill --outside 6 border filled", "");
     assert_eq!(folder.get("filled"), [0b0001_1011]);
@@ -48,7 +50,8 @@ fn refused_masks() {
     folder.refused("count m0", 5);
     folder.refused("count long", 5);
     folder.refused("within m1 m0", 5);
-    folder.refused("fill --outside 32 m1 out", 4);
+    let sentence = folder.refused("fill --outside 32 m1 out", 4);
+    assert!(sentence.ends_with("(level 1 has 32 cells)"), "{sentence}");
     folder.refused("fill --outside 0 m1 out", 8);
     let sentence = folder.refused("count long", 5);
     assert!(sentence.ends_with("(level 8; long has more than 65536 bytes)"), "{sentence}");
@@ -82,7 +85,10 @@ fn cells_that_cant_be_marked() {
     let mark =
         |level: &str, input: &[u8]| folder.run(&["mask", "mark", "--level", level, "out"], input);
     let said = mark("0", b"7\n8\n");
-    assert_eq!(said.err, "refused 4: the cell number is not below 8 x 4^level (line 2)\n");
+    assert_eq!(
+        said.err,
+        "refused 4: the cell number is not below 8 x 4^level (level 0 has 8 cells; line 2)\n"
+    );
     assert_eq!(said.status, 3);
     assert_eq!(
         mark("9", b"").err,
@@ -147,10 +153,10 @@ fn refused_borders() {
     folder.refused("border read stored out", 12);
     let texts = [
         (1, "level 15\n0\n", "the level is above 14, the bound for cells and borders"),
-        (4, "level 0\n7\n\n8\n", "the cell number is not below 8 x 4^level (line 4)"),
-        (4, "level 0\n99999999999\n", "the cell number is not below 8 x 4^level (line 2)"),
+        (4, "level 0\n7\n\n8\n", "(level 0 has 8 cells; line 4)"),
+        (4, "level 0\n99999999999\n", "(level 0 has 8 cells; line 2)"),
         (5, "level 0\n", "the border has no cells"),
-        (7, "level 4\n0\n13\n200\n", "(line 4: no code joins 13 and 200)"),
+        (7, "level 4\n0\n13\n200\n", "there is no such step: no code joins 13 and 200 (line 4)"),
     ];
     for (number, text, told) in texts {
         folder.put("text", text.as_bytes());
@@ -159,5 +165,5 @@ fn refused_borders() {
     }
     folder.put("text", ("level 4\n".to_string() + &"0\n".repeat(4098)).as_bytes());
     let sentence = folder.refused("border write text out", 9);
-    assert_eq!(sentence, "the border has more than 4096 codes (from line 4099)");
+    assert_eq!(sentence, "the border has more than 4096 codes (line 4099)");
 }

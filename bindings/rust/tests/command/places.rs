@@ -26,11 +26,16 @@ fn refused_places() {
     assert_eq!(sentence, "the level is above 14, the bound for cells and borders");
     folder.refused("cell --level 1 --latitude 90000001 --longitude 180000000", 2);
     folder.refused("cell --level 1 --latitude 0 --longitude 180000000", 3);
-    folder.refused("centre --level 1 32", 4);
+    let sentence = folder.refused("centre --level 1 32", 4);
+    assert_eq!(sentence, "the cell number is not below 8 x 4^level (level 1 has 32 cells)");
     folder.refused("touching --level 1 32", 4);
-    folder.refused("step --level 4 187 t", 7);
-    folder.refused("step --level 4 187 8", 7);
-    folder.refused("code --level 4 187 187", 7);
+    let none = "there is no such step:";
+    let sentence = folder.refused("step --level 4 187 t", 7);
+    assert_eq!(sentence, format!("{none} cell 187 has no code t"));
+    let sentence = folder.refused("step --level 4 187 8", 7);
+    assert_eq!(sentence, format!("{none} cell 187 has no code 8"));
+    let sentence = folder.refused("code --level 4 187 187", 7);
+    assert_eq!(sentence, format!("{none} no code joins 187 and 187"));
     folder.refused("code --level 4 187 9999", 4);
 }
 
@@ -64,7 +69,8 @@ fn lines_of_standard_input() {
     assert_eq!((said.status, said.out), (3, Vec::new()));
     let said = folder.run(&["centre", "--level", "1", "-"], b"0\n1\n32\n");
     assert!(
-        said.err.starts_with("refused 4: ") && said.err.ends_with(" (line 3)\n"),
+        said.err.starts_with("refused 4: ")
+            && said.err.ends_with(" (level 1 has 32 cells; line 3)\n"),
         "{}",
         said.err
     );

@@ -10,6 +10,7 @@ use crate::files::{told, Inputs};
 use crate::mask_sets::{empty, mark_cell};
 use crate::numbers::whole;
 use crate::outputs::write as write_files;
+use crate::places::no_code;
 use crate::trouble::{Done, Of, Trouble};
 use crate::words::Words;
 
@@ -114,26 +115,21 @@ impl Text {
     /// A refusal of these cells, with the line that it is about.
     fn refused(&self, level: u32, refusal: Refusal) -> Trouble {
         let cells = &self.cells;
-        let about = match refusal {
+        let line = |cell: usize| format!("line {}", self.lines[cell]);
+        let trouble = Of::Cells.refuses(refusal).of_level(level);
+        match refusal {
             Refusal::Cell => {
                 let cell = cells.iter().position(|cell| ticklocust::centre(level, *cell).is_err());
-                cell.map(|cell| format!("line {}", self.lines[cell]))
+                trouble.at(&line(cell.unwrap_or_default()))
             }
             Refusal::Step => {
-                let no_code = |pair: &[u32]| ticklocust::code(level, pair[0], pair[1]).is_err();
-                let told = |at: usize| {
-                    let (from, to) = (cells[at], cells[at + 1]);
-                    format!("line {}: no code joins {from} and {to}", self.lines[at + 1])
-                };
-                cells.windows(2).position(no_code).map(told)
+                let none = |pair: &[u32]| ticklocust::code(level, pair[0], pair[1]).is_err();
+                let from = cells.windows(2).position(none).unwrap_or_default();
+                let sentence = no_code(cells[from], cells[from + 1]);
+                Trouble::Refused(refusal, sentence).at(&line(from + 1))
             }
-            Refusal::Codes => Some(format!("from line {}", self.lines[MAX_BORDER_CELLS])),
-            _ => None,
-        };
-        let trouble = Of::Cells.refuses(refusal);
-        match about {
-            Some(about) => trouble.at(&about),
-            None => trouble,
+            Refusal::Codes => trouble.at(&line(MAX_BORDER_CELLS)),
+            _ => trouble,
         }
     }
 }

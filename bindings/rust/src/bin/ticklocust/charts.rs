@@ -1,17 +1,17 @@
 //! `chart new`, `chart import`, `chart export`, `chart info`, `chart list`, `reading`.
 
 use std::collections::BTreeMap;
-use std::ffi::{OsStr, OsString};
+use std::ffi::OsString;
 use std::fmt::Write;
 
 use ticklocust::Reading;
 
 use crate::chart_file::{floats, Chart, MOST_AGES, MOST_TEMPERATURES};
-use crate::files::{told, Inputs};
+use crate::files::Inputs;
 use crate::held::read;
 use crate::masks::{lengths_told, level_of};
 use crate::numbers::{degrees, whole};
-use crate::outputs::{say, write};
+use crate::outputs::{say, write, write_new};
 use crate::trouble::{Done, Of, Trouble};
 use crate::words::Words;
 
@@ -25,7 +25,7 @@ pub fn new(words: &[OsString]) -> Done {
     let [place] = words.places(["CHART"])?;
     let (level, date) = (words.needed("level")?, words.date("date")?);
     let chart = Chart::gaps(level, date).map_err(|refusal| Of::Masks.refuses(refusal))?;
-    write_new(&Inputs::default(), place, &chart)
+    write_new(&Inputs::default(), place, &chart.encode())
 }
 
 pub fn import(words: &[OsString]) -> Done {
@@ -44,16 +44,7 @@ pub fn import(words: &[OsString]) -> Done {
     chart
         .reading(0)
         .map_err(|refusal| lengths_told(Of::Masks, refusal, level, lengths.into_iter()))?;
-    write_new(&inputs, place, &chart)
-}
-
-/// Writes a chart where there is none: it has no later days that could be lost.
-fn write_new(inputs: &Inputs, place: &OsStr, chart: &Chart) -> Done {
-    if place != "-" && std::fs::exists(place).unwrap_or(false) {
-        let what = "is there already; remove it first, or name another file";
-        return Err(Trouble::file(told(place, ""), what));
-    }
-    write(inputs, &[(place, &chart.encode())], "")
+    write_new(&inputs, place, &chart.encode())
 }
 
 pub fn export(words: &[OsString]) -> Done {
@@ -122,8 +113,8 @@ pub fn reading(words: &[OsString]) -> Done {
     let cell = whole("CELL", &cell.to_string_lossy())?;
     let mut inputs = Inputs::default();
     let chart = read(&mut inputs, place)?;
-    let level = format!("level {}", chart.level);
-    let reading = chart.reading(cell).map_err(|refusal| Of::Masks.refuses(refusal).at(&level))?;
+    let reading =
+        chart.reading(cell).map_err(|refusal| Of::Masks.refuses(refusal).of_level(chart.level))?;
     let reading = match reading {
         Reading::Fresh(temperature) => format!("fresh {temperature:?} °C"),
         Reading::Carried(temperature, 1) => format!("carried {temperature:?} °C, 1 day"),

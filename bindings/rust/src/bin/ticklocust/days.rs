@@ -49,8 +49,8 @@ fn date_and_ending(path: &Path) -> Option<(Date, usize)> {
     Some((Date::parse(date)?, ENDINGS.iter().position(|name| *name == ending)?))
 }
 
-/// The days to run after the date of the chart of this name: those given, and where `missing` allows
-/// it those that are missing before or between them.
+/// The days to run after the date of the chart of this name: those given, and if `missing` is true
+/// those that are missing before or between them.
 pub fn plan(name: &str, date: Date, days: Vec<Day>, missing: bool) -> Result<Vec<Day>, Trouble> {
     let mut planned = Vec::new();
     let mut last = date;

@@ -9,6 +9,9 @@ use crate::chart_file::{Chart, MOST};
 use crate::files::{read_from, told, Inputs};
 use crate::trouble::Trouble;
 
+/// How often a file is opened that other runs replace at that very moment.
+const TRIES: usize = 100;
+
 /// A chart's file that no other run replaces while this value lives: it has the file's advisory
 /// lock, which also ends with the program.
 pub struct Held<'a> {
@@ -31,16 +34,15 @@ impl<'a> Held<'a> {
             ),
             _ => Trouble::file(&told, error),
         };
-        loop {
+        let in_use = || Err(wrong("another run has this chart in use; try again later"));
+        for _ in 0..TRIES {
             if !fs::metadata(place).map_err(trouble)?.is_file() {
                 return Err(wrong("is not a file"));
             }
             let file = File::open(place).map_err(trouble)?;
             match file.try_lock() {
                 Ok(()) => {}
-                Err(TryLockError::WouldBlock) => {
-                    return Err(wrong("another run has this chart in use; try again later"));
-                }
+                Err(TryLockError::WouldBlock) => return in_use(),
                 Err(TryLockError::Error(error)) => return Err(trouble(error)),
             }
             // The run before may have renamed a new file to this place since it was opened.
@@ -50,6 +52,7 @@ impl<'a> Held<'a> {
                 return Ok(Held { place, file });
             }
         }
+        in_use()
     }
 
     pub fn chart(&self) -> Result<Chart, Trouble> {

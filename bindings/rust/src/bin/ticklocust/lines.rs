@@ -8,8 +8,8 @@ use crate::trouble::Trouble;
 /// The most bytes of a line, so that what has no lines is seen at once.
 const MOST: u64 = 200;
 
-/// Hands every line that isn't blank to `take`, with its name, 'line N'. A refusal is told with that
-/// name.
+/// Hands every line that isn't blank to `take`, after its name, 'line N', which the sentence of a
+/// refusal has too.
 pub fn each(
     inputs: &mut Inputs,
     mut take: impl FnMut(&str, &str) -> Result<(), Trouble>,

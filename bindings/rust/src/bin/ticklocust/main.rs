@@ -83,7 +83,9 @@ fn run(words: &[OsString]) -> Done {
         return say(&format!("ticklocust {}\n", env!("CARGO_PKG_VERSION")));
     }
     if asks_help(first) || first == "help" {
-        return say(topic(&words[1..])?);
+        let words: Vec<OsString> =
+            words[1..].iter().filter(|word| !asks_help(word)).cloned().collect();
+        return say(topic(&words)?);
     }
     let Some((command, rest)) = find(words) else {
         return Err(Trouble::usage(format!("there is no subcommand '{}'", joined(&words[..1]))));

@@ -34,9 +34,12 @@ pub fn mark_cell(mask: &mut [u8], cell: u32) -> Result<(), Trouble> {
 pub fn mark(words: &[OsString]) -> Done {
     let words = Words::sort(words, &["level"])?;
     let [out] = words.places(["OUT"])?;
-    let mut mask = empty(words.needed("level")?)?;
+    let level = words.needed("level")?;
+    let mut mask = empty(level)?;
     let mut inputs = Inputs::default();
-    lines::each(&mut inputs, |name, line| mark_cell(&mut mask, whole(name, line)?))?;
+    lines::each(&mut inputs, |name, line| {
+        mark_cell(&mut mask, whole(name, line)?).map_err(|trouble| trouble.of_level(level))
+    })?;
     write(&inputs, &[(out, &mask)], "")
 }
 

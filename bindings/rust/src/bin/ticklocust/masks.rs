@@ -42,7 +42,7 @@ impl<'a, const N: usize> Masks<'a, N> {
 
     pub fn refused(&self, refusal: Refusal) -> Trouble {
         let lengths = self.places.iter().zip(&self.bytes).map(|(p, b)| (*p, b.len(), MOST));
-        lengths_told(Of::Masks, refusal, self.level, lengths)
+        lengths_told(Of::Masks, refusal, self.level, lengths).of_level(self.level)
     }
 
     /// Writes the mask that was made of them.
@@ -70,7 +70,8 @@ pub fn lengths_told<'a>(
     let lengths: Vec<String> = files
         .map(|(place, length, most)| {
             let more = if length > most { "more than " } else { "" };
-            format!("{} has {more}{} bytes", told(place, "standard input"), length.min(most))
+            let bytes = if length == 1 { "byte" } else { "bytes" };
+            format!("{} has {more}{} {bytes}", told(place, "standard input"), length.min(most))
         })
         .collect();
     of.refuses(refusal).at(&format!("level {level}; {}", lengths.join(", ")))

@@ -12,8 +12,8 @@ use crate::outputs::say;
 use crate::trouble::{Done, Of, Trouble};
 use crate::words::Words;
 
-fn refused(refusal: Refusal) -> Trouble {
-    Of::Cells.refuses(refusal)
+fn refused(level: u32) -> impl Fn(Refusal) -> Trouble {
+    move |refusal| Of::Cells.refuses(refusal).of_level(level)
 }
 
 /// Prints, where nothing but standard input was read.
@@ -65,7 +65,7 @@ fn dash(words: &Words) -> Result<(), Trouble> {
 fn cell_line(level: u32, names: [&str; 2], position: [&str; 2]) -> Result<String, Trouble> {
     let latitude = Latitude(microdegrees(names[0], position[0])?);
     let longitude = Longitude(microdegrees(names[1], position[1])?);
-    let cell = ticklocust::cell_at(level, latitude, longitude).map_err(refused)?;
+    let cell = ticklocust::cell_at(level, latitude, longitude).map_err(refused(level))?;
     Ok(format!("{cell}\n"))
 }
 
@@ -73,8 +73,9 @@ pub fn centre(words: &[OsString]) -> Done {
     let words = Words::sort(words, &["level"])?;
     let [cell] = words.places(["CELL"])?;
     let level = words.needed("level")?;
-    let centre =
-        |name: &str, cell: &str| ticklocust::centre(level, whole(name, cell)?).map_err(refused);
+    let centre = |name: &str, cell: &str| {
+        ticklocust::centre(level, whole(name, cell)?).map_err(refused(level))
+    };
     if cell != "-" {
         let (latitude, longitude) = centre("CELL", &cell.to_string_lossy())?;
         return print(&format!("latitude {latitude}\nlongitude {longitude}\n"));
@@ -91,8 +92,16 @@ pub fn centre(words: &[OsString]) -> Done {
 pub fn step(words: &[OsString]) -> Done {
     let words = Words::sort(words, &["level"])?;
     let [cell, code] = words.places(["CELL", "CODE"])?;
-    let (cell, code) = (whole("CELL", &cell.to_string_lossy())?, code_of(code)?);
-    let to = ticklocust::step(words.needed("level")?, cell, code).map_err(refused)?;
+    let (cell, number) = (whole("CELL", &cell.to_string_lossy())?, code_of(code)?);
+    let level = words.needed("level")?;
+    let to = ticklocust::step(level, cell, number).map_err(|refusal| match refusal {
+        Refusal::Step => {
+            let code = code.to_string_lossy();
+            let sentence = format!("there is no such step: cell {cell} has no code {code}");
+            Trouble::Refused(refusal, sentence)
+        }
+        _ => refused(level)(refusal),
+    })?;
     print(&format!("{to}\n"))
 }
 
@@ -114,16 +123,26 @@ pub fn code(words: &[OsString]) -> Done {
     let [from, to] = words.places(["FROM", "TO"])?;
     let (from, to) = (from.to_string_lossy(), to.to_string_lossy());
     let (from, to) = (whole("FROM", &from)?, whole("TO", &to)?);
-    let code = ticklocust::code(words.needed("level")?, from, to).map_err(refused)?;
+    let level = words.needed("level")?;
+    let code = ticklocust::code(level, from, to).map_err(|refusal| match refusal {
+        Refusal::Step => Trouble::Refused(refusal, no_code(from, to)),
+        _ => refused(level)(refusal),
+    })?;
     let letter = CODES.get(code as usize).copied().unwrap_or('?');
     print(&format!("{code} {letter}\n"))
+}
+
+/// The sentence for two cells that no code joins.
+pub fn no_code(from: u32, to: u32) -> String {
+    format!("there is no such step: no code joins {from} and {to}")
 }
 
 pub fn touching(words: &[OsString]) -> Done {
     let words = Words::sort(words, &["level"])?;
     let [cell] = words.places(["CELL"])?;
     let cell = whole("CELL", &cell.to_string_lossy())?;
-    let cells = ticklocust::touching(words.needed("level")?, cell).map_err(refused)?;
+    let level = words.needed("level")?;
+    let cells = ticklocust::touching(level, cell).map_err(refused(level))?;
     let mut text = String::new();
     for cell in cells.iter() {
         let _ = writeln!(text, "{cell}");

@@ -39,18 +39,46 @@ impl Temporary {
         }
     }
 
-    /// Renames it. The folder is synchronised, so that the new name outlasts a power cut; some file
-    /// systems can't do that, and the file is whole under either name.
-    pub fn rename(self, target: &Path) -> io::Result<()> {
-        let mut present = present();
-        fs::rename(&self.0, target)?;
-        present.retain(|path| *path != self.0);
-        drop(present);
-        if let Ok(folder) = target.parent().map_or(Err(io::ErrorKind::NotFound.into()), File::open)
-        {
-            let _ = folder.sync_all();
+    /// Gives it a name that no file has.
+    pub fn link(self, target: &Path) -> io::Result<()> {
+        match fs::hard_link(&self.0, target) {
+            Ok(()) => synchronise(target),
+            // Some file systems have no links.
+            Err(error) if error.kind() != io::ErrorKind::AlreadyExists => {
+                if fs::symlink_metadata(target).is_ok() {
+                    return Err(io::ErrorKind::AlreadyExists.into());
+                }
+                return rename_all(vec![(self, target)]).map_err(|(_, error)| error);
+            }
+            Err(error) => return Err(error),
         }
         Ok(())
+    }
+}
+
+/// Renames files, without a signal between two of them. An error comes with the file that it is
+/// about.
+pub fn rename_all(ready: Vec<(Temporary, &Path)>) -> Result<(), (&Path, io::Error)> {
+    let mut present = present();
+    for (temporary, target) in &ready {
+        if let Err(error) = fs::rename(&temporary.0, target) {
+            // What is still there is removed when it is dropped.
+            drop(present);
+            return Err((*target, error));
+        }
+        present.retain(|path| *path != temporary.0);
+    }
+    drop(present);
+    ready.iter().for_each(|(_, target)| synchronise(target));
+    Ok(())
+}
+
+/// Synchronises a file's folder, so that its name outlasts a power cut. Some file systems can't do
+/// that; the file is whole all the same.
+fn synchronise(target: &Path) {
+    let folder = target.parent().map(File::open);
+    if let Some(Ok(folder)) = folder {
+        let _ = folder.sync_all();
     }
 }
 

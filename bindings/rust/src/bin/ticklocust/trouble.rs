@@ -52,11 +52,25 @@ impl Trouble {
         }
     }
 
-    /// The same trouble; where it is a refusal, its sentence says where.
-    pub fn at(self, place: &str) -> Trouble {
+    /// The same trouble; where it is a refusal, its sentence ends with this in brackets.
+    pub fn at(self, about: &str) -> Trouble {
         match self {
             Trouble::Refused(refusal, sentence) => {
-                Trouble::Refused(refusal, format!("{sentence} ({place})"))
+                let told = match sentence.strip_suffix(')') {
+                    Some(begun) => format!("{begun}; {about})"),
+                    None => format!("{sentence} ({about})"),
+                };
+                Trouble::Refused(refusal, told)
+            }
+            other => other,
+        }
+    }
+
+    /// The same trouble; where a cell is refused, its sentence names the bound of the level.
+    pub fn of_level(self, level: u32) -> Trouble {
+        match self {
+            Trouble::Refused(Refusal::Cell, _) => {
+                self.at(&format!("level {level} has {} cells", 8_u64 << (2 * level)))
             }
             other => other,
         }

@@ -1,6 +1,7 @@
 //! The words of a subcommand: options and their values, and the places of files and numbers.
 
 use std::ffi::{OsStr, OsString};
+use std::os::unix::ffi::OsStrExt;
 
 use crate::dates::Date;
 use crate::numbers::whole;
@@ -24,22 +25,21 @@ impl Words {
                 sorted.places.extend(words.by_ref().cloned());
                 break;
             }
-            let Some(named) = word.to_str().and_then(|word| word.strip_prefix("--")) else {
+            let Some(named) = word.as_bytes().strip_prefix(b"--") else {
                 sorted.places.push(word.clone());
                 continue;
             };
-            let (name, value) = match named.split_once('=') {
-                Some((name, value)) => (name, Some(OsString::from(value))),
-                None => (named, None),
-            };
+            let mut parts = named.splitn(2, |byte| *byte == b'=').map(OsStr::from_bytes);
+            let (name, value) = (parts.next().unwrap_or_default(), parts.next());
             let Some(option) = options.iter().find(|option| **option == name) else {
-                return Err(Trouble::usage(format!("there is no option '--{named}' here")));
+                let name = name.to_string_lossy();
+                return Err(Trouble::usage(format!("there is no option '--{name}' here")));
             };
             if sorted.option(option).is_some() {
-                return Err(Trouble::usage(format!("--{name} is given twice")));
+                return Err(Trouble::usage(format!("--{option} is given twice")));
             }
-            let Some(value) = value.or_else(|| words.next().cloned()) else {
-                return Err(Trouble::usage(format!("--{name} has no value")));
+            let Some(value) = value.map(OsString::from).or_else(|| words.next().cloned()) else {
+                return Err(Trouble::usage(format!("--{option} has no value")));
             };
             sorted.options.push((option, value));
         }

@@ -32,7 +32,7 @@ overrides it. - is standard input or output.
   $ wc -c <island.border
   4
   $ printf 'level 4\\n0\\n200\\n' | ticklocust border write - wrong.border || echo \"status $?\"
-  refused 7: there is no such step: a code above 7, a code that is absent there, or two cells that no code joins (line 3: no code joins 0 and 200)
+  refused 7: there is no such step: no code joins 0 and 200 (line 3)
   status 3
 ";
 
