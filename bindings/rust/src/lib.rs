@@ -8,11 +8,12 @@
 //! threads may call at once, each with its own slices.
 //!
 //! - Places: [`cell_at`] and [`centre`], with [`Latitude`] and [`Longitude`] as separate types;
-//!   [`step`], [`code`] and [`touching`].
-//! - Borders in their stored form: [`border_read`] and [`border_write`].
+//!   [`step`], [`code`] and [`touching`]. The rules: docs/RULES.md, 1 to 5.
 //! - Masks, byte slices with one bit per cell: [`grow`], [`shrink`], [`join`], [`count`],
-//!   [`within`] and [`fill`].
-//! - Charts, a slice of temperatures and one of ages: [`reading`] and [`day`].
+//!   [`within`] and [`fill`]. The rules: docs/RULES.md, 6.
+//! - Charts, a slice of temperatures and one of ages: [`reading`] and [`day`]. The rules:
+//!   docs/RULES.md, 7.
+//! - Borders in their stored form: [`border_read`] and [`border_write`]. The rules: docs/RULES.md, 8.
 //!
 //! ```
 //! use ticklocust::{cell_at, centre, Latitude, Longitude};

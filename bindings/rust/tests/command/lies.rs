@@ -97,6 +97,10 @@ fn lie_7_two_runs_at_once() {
     let second = folder.run(&words, &[]);
     assert_eq!(second.err, "ticklocust: c: another run has this chart in use; try again later\n");
     assert_eq!((second.status, second.out), (2, Vec::new()));
+    // Nor is it replaced by the run of another chart.
+    folder.prints("chart new --level 0 --date 2026-03-08 d", "");
+    let other = "day --rings 0 --limit 30 --date 2026-03-09 news cloud d --to c";
+    folder.wrong_line(other, "c: another run has this chart in use");
     assert_eq!(first.release(), (Some(0), SAID.to_string()));
     folder.not_in_order(DAY, "2026-03-09 is not after its date, 2026-03-09");
     assert_eq!(held(&folder, "c").1, [1, 0, 0, 0, 0, 0, 1, 1]);

@@ -16,7 +16,7 @@ use std::path::{Path, PathBuf};
 use std::process::{Child, Command, Stdio};
 use std::sync::atomic::{AtomicU32, Ordering};
 
-/// A folder of a test's own, taken away afterwards.
+/// A folder of a test's own, removed afterwards.
 struct Folder(PathBuf);
 
 impl Folder {
@@ -88,14 +88,14 @@ impl Folder {
         }
     }
 
-    /// Runs it, sees that it is accepted, and gives its standard output.
+    /// Runs it, checks that it is accepted, and gives its standard output.
     fn prints(&self, line: &str, out: &str) {
         let said = self.run(&line.split(' ').collect::<Vec<_>>(), &[]);
         assert_eq!((said.status, said.err.as_str()), (0, ""), "{line}");
         assert_eq!(String::from_utf8(said.out).unwrap(), out, "{line}");
     }
 
-    /// Runs it and sees that it is refused by that number, says so, and touches no file. Gives the
+    /// Runs it and checks that it is refused by that number, says so, and touches no file. Gives the
     /// sentence.
     fn refused(&self, line: &str, number: u32) -> String {
         let before = self.all();
@@ -107,7 +107,7 @@ impl Folder {
         said.err[told.len()..].trim_end().to_string()
     }
 
-    /// Runs it and sees that its words or files are wrong, that it says these words, and that it
+    /// Runs it and checks that its words or files are wrong, that it says these words, and that it
     /// touches no file.
     fn wrong(&self, words: &[&str], told: &str) {
         self.fails(words, 2, told);
@@ -118,7 +118,7 @@ impl Folder {
         self.fails(&line.split(' ').collect::<Vec<_>>(), 2, told);
     }
 
-    /// Runs a day that doesn't follow the chart's date, and sees that it says these words and
+    /// Runs a day that doesn't follow the chart's date, and checks that it says these words and
     /// touches no file.
     fn not_in_order(&self, line: &str, told: &str) {
         self.fails(&line.split(' ').collect::<Vec<_>>(), 4, told);

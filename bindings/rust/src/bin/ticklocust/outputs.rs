@@ -50,7 +50,7 @@ pub fn write_new(inputs: &Inputs, place: &OsStr, bytes: &[u8]) -> Done {
     Ok(ExitCode::SUCCESS)
 }
 
-/// Sees that no output is one of the inputs and that no two are the same file.
+/// Checks that no output is one of the inputs and that no two are the same file.
 pub fn apart(inputs: &Inputs, files: &[(&OsStr, &[u8])], text: &str) -> Result<(), Trouble> {
     targets(inputs, files, text).map(drop)
 }

@@ -49,7 +49,7 @@ pub fn cell(words: &[OsString]) -> Done {
     say(&inputs, &text)
 }
 
-/// Sees that the only place is `-`.
+/// Checks that the only place is `-`.
 fn dash(words: &Words) -> Result<(), Trouble> {
     match words.places(["-"])? {
         [place] if place == "-" => Ok(()),

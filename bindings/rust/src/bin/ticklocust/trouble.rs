@@ -85,8 +85,7 @@ impl Trouble {
         }
     }
 
-    /// Tells it on standard error and gives the status. Where standard error is closed, the status
-    /// has to do.
+    /// Tells it on standard error, if that is open, and gives the status.
     pub fn tell(&self) -> ExitCode {
         let (told, status) = match self {
             Trouble::Refused(refusal, sentence) => {

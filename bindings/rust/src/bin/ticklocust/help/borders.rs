@@ -5,14 +5,14 @@ usage: ticklocust border read STORED [TEXT]
        ticklocust border write TEXT STORED [--level K]
        ticklocust border mask STORED OUT
 
-'ticklocust help border read' and so on say more.
+'ticklocust help border read' and so on describe each. The stored form: docs/RULES.md, 8.
 ";
 
 pub const READ: &str = "\
 usage: ticklocust border read STORED [TEXT]
 
-Reads a stored border and writes it as text: 'level K', then its cells, one a line. Without TEXT
-it goes to standard output. - is standard input or output.
+Reads a stored border (docs/RULES.md, 8) and writes it as text: 'level K', then its cells, one a
+line. Without TEXT it goes to standard output. - is standard input or output.
 
   $ printf '\\4\\0\\2\\13' | ticklocust border read -
   level 4
@@ -24,9 +24,9 @@ it goes to standard output. - is standard input or output.
 pub const WRITE: &str = "\
 usage: ticklocust border write TEXT STORED [--level K]
 
-Writes a border in its stored form. TEXT is as 'border read' writes it: 'level K', then the cells,
-one a line, each one step from the one before; at most 4097. --level replaces the first line, or
-overrides it. - is standard input or output.
+Writes a border in its stored form (docs/RULES.md, 8). TEXT is as 'border read' writes it: 'level
+K', then the cells, one a line, each one step from the one before; at most 4097. --level replaces
+that first line. - is standard input or output.
 
   $ printf 'level 4\\n0\\n13\\n3\\n' | ticklocust border write - island.border
   $ wc -c <island.border

@@ -7,7 +7,7 @@ usage: ticklocust chart new --level K --date DATE CHART
        ticklocust chart info CHART
        ticklocust chart list CHART
 
-'ticklocust help chart new' and so on say more; 'ticklocust help files' documents the file.
+'ticklocust help chart new' and so on describe each; 'ticklocust help files' documents the file.
 ";
 
 pub const NEW: &str = "\
@@ -43,7 +43,8 @@ pub const EXPORT: &str = "\
 usage: ticklocust chart export CHART TEMPERATURES AGES
 
 Writes a chart's two plain arrays ('ticklocust help files'). The date is not in them: see 'chart
-info'. - is standard input, or output for one of the two.
+info'. The two files are renamed one right after the other; if the second rename fails, the first
+file is new. - is standard input, or output for one of the two.
 
   $ ticklocust chart new --level 0 --date 2026-03-08 sea.chart
   $ ticklocust chart export sea.chart temperatures ages
@@ -56,9 +57,9 @@ info'. - is standard input, or output for one of the two.
 pub const INFO: &str = "\
 usage: ticklocust chart info CHART
 
-Prints the date of a chart's last day, its level, and how many cells are fresh, carried and gaps
-as of that date. Then 'carried-days D N' for each number of days D: N cells were last seen D days
-before. - is standard input.
+Prints the date of a chart's last day, its level, and how many cells are fresh, carried and gaps as
+of that date (docs/RULES.md, 7). Then 'carried-days D N' for each number of days D: N cells were
+last seen D days before. - is standard input.
 
   $ printf '\\0\\0\\200A%.0s' 0 1 2 3 4 5 6 7 >temperatures   # 16.0 in each of eight cells
   $ printf '\\0\\1\\1\\36\\37\\0\\0\\377' >ages
@@ -95,8 +96,8 @@ temperature nor days. - is standard input.
 pub const READING: &str = "\
 usage: ticklocust reading CELL CHART
 
-Prints what a chart says about a cell as of its date: 'fresh' or 'carried' with the temperature and,
-if carried, its days; or 'gap'. - is standard input.
+Prints what a chart says about a cell as of its date: 'fresh' or 'carried' with the temperature
+and, if carried, its days; or 'gap' (docs/RULES.md, 7). - is standard input.
 
   $ ticklocust chart new --level 0 --date 2026-03-08 sea.chart
   $ printf '\\0\\0\\200A%.0s' 0 1 2 3 4 5 6 7 >news           # 16.0 in each of eight cells

@@ -14,12 +14,12 @@ DATE is YYYY-MM-DD and has to be the day after the chart's. A day that is in the
 refused, so a run may be repeated after any failure. A date that skips days is refused too; with
 --missing cloud each missing day is run as all cloud, and has its line.
 
-FOLDER has two files for each day, DATE.temperatures and DATE.cloud, and nothing else. The last line
-is how long the run took.
+FOLDER has two files for each day, DATE.temperatures and DATE.cloud, and nothing else. The last
+line printed is the rate of the run.
 
 The chart is replaced after the last day by one rename. If a day is refused, a file can't be read
-or the lines can't be printed, it stays as it was. While a run is on, a second one for the same
-chart is refused.
+or the lines can't be printed, it stays as it was. During a run the chart is locked: a second run
+says that it is in use. The rules of a day: docs/RULES.md, 7; of growing: 6.
 
   --missing cloud   run missing days as all cloud
   --to OTHER        write the new chart to OTHER and leave CHART

@@ -30,6 +30,8 @@ A stored border has at most 1544 bytes (docs/RULES.md, 8).
   $ ticklocust chart new --level 0 --date 2026-03-08 sea.chart
   $ wc -c <sea.chart
   76
-  $ head -c 8 sea.chart && dd if=sea.chart bs=1 skip=16 count=10 2>/dev/null
-  TICKLCST2026-03-08
+  $ head -c 8 sea.chart
+  TICKLCST
+  $ python3 -c \"import zlib; b = open('sea.chart', 'rb').read(); print(zlib.crc32(b[:-4]) == int.from_bytes(b[-4:], 'little'))\"
+  True
 ";

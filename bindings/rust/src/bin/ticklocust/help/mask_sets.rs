@@ -7,7 +7,7 @@ usage: ticklocust mask mark --level K OUT
        ticklocust mask minus A B OUT
        ticklocust mask not MASK OUT
 
-'ticklocust help mask mark' and so on say more.
+'ticklocust help mask mark' and so on describe each.
 ";
 
 pub const MARK: &str = "\

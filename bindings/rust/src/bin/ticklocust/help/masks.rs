@@ -4,7 +4,8 @@ pub const GROW: &str = "\
 usage: ticklocust grow --rings M MASK OUT [--level K]
 
 Writes the mask of the cells at most M touching steps from a marked cell, across every edge of an
-octant. M is 0 to 64. The level follows from the mask's length. - is standard input or output.
+octant (docs/RULES.md, 6). M is 0 to 64. The level follows from the mask's length. - is standard
+input or output.
 
   $ printf '0\\n' | ticklocust mask mark --level 5 cloud
   $ ticklocust grow --rings 1 cloud grown
@@ -15,8 +16,9 @@ octant. M is 0 to 64. The level follows from the mask's length. - is standard in
 pub const SHRINK: &str = "\
 usage: ticklocust shrink --rings M MASK OUT [--level K]
 
-Writes the mask of the cells from which every cell within M touching steps is marked. M is 0 to 64.
-The level follows from the mask's length. - is standard input or output.
+Writes the mask of the cells from which every cell within M touching steps is marked
+(docs/RULES.md, 6). M is 0 to 64. The level follows from the mask's length. - is standard input or
+output.
 
   $ printf '0\\n' | ticklocust mask mark --level 5 - | ticklocust grow --rings 2 - grown
   $ ticklocust shrink --rings 2 grown shrunk
@@ -67,8 +69,8 @@ pub const FILL: &str = "\
 usage: ticklocust fill --outside CELL BORDER OUT [--level K]
 
 Writes the mask of the cells that the outside cell can't reach by direct steps through unmarked
-cells: what the border encloses, and the border. BORDER is a mask ('border mask' makes one of a
-stored border). The level follows from its length. - is standard input or output.
+cells: what the border encloses, and the border (docs/RULES.md, 6). BORDER is a mask ('border mask'
+makes one of a stored border). The level follows from its length. - is standard input or output.
 
   $ printf '1\\n3\\n4\\n' | ticklocust mask mark --level 0 border
   $ ticklocust fill --outside 6 border filled

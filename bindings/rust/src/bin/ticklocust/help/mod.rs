@@ -42,14 +42,14 @@ Charts of sea-surface temperatures, each with its age in days
   day            one day of a chart, or a folder of days
   reading        what a chart says about a cell: fresh, carried or gap
 
-'ticklocust help SUBCOMMAND' says more of each, with an example. 'ticklocust help files' documents
-the files. 'ticklocust --version' prints the version. The rules of the library are in
-docs/RULES.md.
+'ticklocust help SUBCOMMAND' describes each, with an example. 'ticklocust help files' documents the
+formats of files. 'ticklocust --version' prints the version. Pages cite the rules by the sections
+of docs/RULES.md.
 
-Files. A file is written under a temporary name beside it, .ticklocust-...part, and renamed after
-everything is printed: it is written whole or not at all. SIGINT, SIGTERM and SIGHUP remove
-temporary files; only SIGKILL leaves one, which may be removed. No file that is read is written,
-except the chart of 'day'. - is standard input or output; a device or a pipe is written as it is.
+Files. A file is written under a temporary name in its folder, .ticklocust-*.part, and renamed
+after everything is printed: it is written whole or not at all. SIGINT, SIGTERM and SIGHUP remove
+temporary files; SIGKILL leaves one, which is safe to remove. No file that is read is written,
+except the chart of 'day'. - is standard input or output; devices and pipes are written directly.
 
 Status
   0    done; 'within': yes
@@ -58,6 +58,7 @@ Status
   3    the call is refused; standard error has 'refused N: ...' with the number of the table in
        docs/RULES.md, 9
   4    the day doesn't follow the chart's date
-  141  nobody reads standard output any more
-With any status but 0 and 1, no file is changed.
+  141  standard output is a broken pipe
+With status 2, 3, 4 and 141 no file is changed; 'help chart export' has the one exception. A run
+that was ended by a signal can be repeated: a day that is in the chart already is refused.
 ";

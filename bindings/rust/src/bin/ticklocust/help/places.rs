@@ -5,10 +5,11 @@ usage: ticklocust cell --level K --latitude M --longitude M
        ticklocust cell --level K -
 
 Prints the number of the cell at a position. The level is 0 to 14. A coordinate is degrees with a
-decimal point, exact in millionths, or whole millionths of a degree without one; south and west
-are negative. The latitude is -90.0 to 90.0, the longitude -180.0 to 179.999999.
+decimal point, exact in millionths, or whole millionths of a degree without one; south and west are
+negative. The latitude is -90.0 to 90.0, the longitude -180.0 to 179.999999.
 
-With - every line of standard input is a latitude and a longitude, and has its cell printed.
+With -, each line of standard input is a latitude and a longitude, and its cell is printed. The
+rules: docs/RULES.md, 2.
 
   $ ticklocust cell --level 1 --latitude 22.5 --longitude 30.0
   0
@@ -26,8 +27,8 @@ usage: ticklocust centre --level K CELL
 Prints the latitude and the longitude of a cell's centre, a line each, in millionths of a degree.
 The level is 0 to 14.
 
-With - every line of standard input is a cell, and has its centre printed on one line, as 'cell'
-takes it.
+With -, each line of standard input is a cell, and its centre is printed on one line, in the form
+that 'cell' reads. The rules: docs/RULES.md, 3.
 
   $ ticklocust centre --level 1 2
   latitude 15000000
@@ -41,7 +42,7 @@ pub const STEP: &str = "\
 usage: ticklocust step --level K CELL CODE
 
 Prints the cell that a code leads to. The codes are t l r e w T E W, or their numbers 0 to 7; T, E
-and W cross the edge of an octant. The level is 0 to 14.
+and W cross the edge of an octant (docs/RULES.md, 4). The level is 0 to 14.
 
   $ ticklocust step --level 4 187 T
   1211
@@ -50,8 +51,8 @@ and W cross the edge of an octant. The level is 0 to 14.
 pub const CODE: &str = "\
 usage: ticklocust code --level K FROM TO
 
-Prints the number and the letter of the code that leads from one cell to another. The level is 0
-to 14.
+Prints the number and the letter of the code that leads from one cell to another (docs/RULES.md,
+4). The level is 0 to 14.
 
   $ ticklocust code --level 4 187 1211
   5 T
@@ -61,7 +62,7 @@ pub const TOUCHING: &str = "\
 usage: ticklocust touching --level K CELL
 
 Prints the cells that have a point in common with a cell, one a line, in ascending order: 6, 10 or
-12. The level is 0 to 14.
+12 (docs/RULES.md, 5). The level is 0 to 14.
 
   $ ticklocust touching --level 0 0
   1
