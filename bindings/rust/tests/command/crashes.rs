@@ -171,9 +171,34 @@ fn a_closed_or_unwritable_standard_output_changes_nothing() {
 }
 
 #[test]
+fn a_full_file_system() {
+    // It takes a mount in a namespace of one's own, which not every system allows: there, the test
+    // below stands in for this one.
+    let folder = begun();
+    let script = "set -e; mkdir full; mount -t tmpfs -o size=64k none full; cp c news cloud full
+        cd full; cat /dev/zero >rest 2>/dev/null || true
+        \"$0\" \"$@\" 2>&1 || echo status $?; cmp c ../c; ls -A; rm rest
+        \"$0\" \"$@\"; \"$0\" reading 0 c; \"$0\" \"$@\" 2>&1 || echo status $?";
+    let words =
+        [&["-Urm", "sh", "-c", script, env!("CARGO_BIN_EXE_ticklocust")], &words()[..]].concat();
+    let mount = "mkdir try && mount -t tmpfs none try";
+    let mut allowed = Command::new("unshare");
+    allowed.args(["-Urm", "sh", "-c", mount]).current_dir(&folder.0).stderr(Stdio::null());
+    if !allowed.status().is_ok_and(|status| status.success()) {
+        return;
+    }
+    let output = Command::new("unshare").args(words).current_dir(&folder.0).output().unwrap();
+    let expected = format!(
+        "ticklocust: c: No space left on device (os error 28)\nstatus 2\nc\ncloud\nnews\nrest\n\
+         {SAID}carried 21.0 °C, 1 day, chart of 2026-03-09\n\
+         ticklocust: c: 2026-03-09 is not after its date, 2026-03-09: nothing is changed\nstatus 4\n"
+    );
+    assert_eq!(String::from_utf8(output.stdout).unwrap(), expected);
+}
+
+#[test]
 fn a_file_that_cant_be_written_whole() {
-    // A full file system can't be had without privileges; a limit on the length of files makes the
-    // same write fail.
+    // A limit on the length of files makes the write fail.
     let folder = begun();
     let before = folder.all();
     let output =

@@ -4,7 +4,7 @@
 use std::ffi::{OsStr, OsString};
 use std::fmt::Write;
 
-use ticklocust::{border_read, Border, Refusal, MAX_BORDER_BYTES, MAX_BORDER_CELLS};
+use ticklocust::{Border, Refusal, MAX_BORDER_BYTES, MAX_BORDER_CELLS};
 
 use crate::files::{told, Inputs};
 use crate::mask_sets::{empty, mark_cell};
@@ -22,10 +22,6 @@ pub fn none(words: &[OsString]) -> Done {
     Err(Trouble::usage("border is followed by read, write or mask"))
 }
 
-fn refused(refusal: Refusal) -> Trouble {
-    Of::Cells.refuses(refusal)
-}
-
 pub fn read(words: &[OsString]) -> Done {
     let words = Words::sort(words, &[])?;
     let (stored, text) = match words.count() {
@@ -35,11 +31,18 @@ pub fn read(words: &[OsString]) -> Done {
             (stored, text)
         }
     };
-    let mut inputs = Inputs::default();
-    let bytes = inputs.read(stored, MAX_BORDER_BYTES)?;
-    let mut cells = vec![0; MAX_BORDER_CELLS];
-    let border = border_read(&bytes, &mut cells).map_err(refused)?;
+    let (mut inputs, mut cells) = (Inputs::default(), [0; MAX_BORDER_CELLS]);
+    let border = read_stored(&mut inputs, stored, &mut cells)?;
     write_files(&inputs, &[(text, text_of(border).as_bytes())], "")
+}
+
+fn read_stored<'a>(
+    inputs: &mut Inputs,
+    stored: &OsStr,
+    cells: &'a mut [u32],
+) -> Result<Border<'a>, Trouble> {
+    let bytes = inputs.read(stored, MAX_BORDER_BYTES)?;
+    ticklocust::border_read(&bytes, cells).map_err(|refusal| Of::Cells.refuses(refusal))
 }
 
 fn text_of(border: Border) -> String {
@@ -53,10 +56,8 @@ fn text_of(border: Border) -> String {
 pub fn mask(words: &[OsString]) -> Done {
     let words = Words::sort(words, &[])?;
     let [stored, out] = words.places(["STORED", "OUT"])?;
-    let mut inputs = Inputs::default();
-    let bytes = inputs.read(stored, MAX_BORDER_BYTES)?;
-    let mut cells = vec![0; MAX_BORDER_CELLS];
-    let border = border_read(&bytes, &mut cells).map_err(refused)?;
+    let (mut inputs, mut cells) = (Inputs::default(), [0; MAX_BORDER_CELLS]);
+    let border = read_stored(&mut inputs, stored, &mut cells)?;
     let mut mask = empty(border.level)?;
     border.cells.iter().try_for_each(|cell| mark_cell(&mut mask, *cell))?;
     write_files(&inputs, &[(out, &mask)], "")

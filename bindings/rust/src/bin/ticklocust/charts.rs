@@ -40,10 +40,8 @@ pub fn import(words: &[OsString]) -> Done {
     let lengths = [lengths, (ages, bytes.len(), MOST_AGES)];
     let level = given.unwrap_or_else(|| level_of(bytes.len(), 8));
     let chart = Chart { date, level, temperatures, ages: bytes };
-    // Any reading sees whether both lengths are those of the level.
-    chart
-        .reading(0)
-        .map_err(|refusal| lengths_told(Of::Masks, refusal, level, lengths.into_iter()))?;
+    // Any reading checks both lengths.
+    chart.reading(0).map_err(|refusal| lengths_told(Of::Masks, refusal, level, &lengths))?;
     write_new(&inputs, place, &chart.encode())
 }
 

@@ -9,7 +9,7 @@ use crate::chart_file::{floats, Chart, MOST_TEMPERATURES};
 use crate::days::{of_folder, plan, Day};
 use crate::files::Inputs;
 use crate::held::Held;
-use crate::masks::{lengths_told, MOST as MOST_MASK};
+use crate::masks::{lengths_told, Length, MOST as MOST_MASK};
 use crate::outputs::{apart, write};
 use crate::progress::Progress;
 use crate::trouble::{Done, Of, Trouble};
@@ -119,19 +119,16 @@ fn run_one(
         }
         None => (vec![0; 4 * chart_len(level).unwrap_or(0)], vec![255; bytes]),
     };
-    let refused = |of: Of| {
-        let files = day.files.iter().flatten().map(OsString::as_os_str);
-        let lengths = [(news.len(), MOST_TEMPERATURES), (cloud.len(), MOST_MASK)];
-        let files: Vec<_> =
-            files.zip(lengths).map(|(f, (length, most))| (f, length, most)).collect();
-        move |refusal: Refusal| lengths_told(of, refusal, level, files.into_iter())
-    };
+    let places = day.files.iter().flatten().map(OsString::as_os_str);
+    let lengths = [(news.len(), MOST_TEMPERATURES), (cloud.len(), MOST_MASK)];
+    let files: Vec<Length> = places.zip(lengths).map(|(p, (had, most))| (p, had, most)).collect();
+    let refused = |of: Of, refusal: Refusal| lengths_told(of, refusal, level, &files);
     let (mut grown, mut work) = (vec![0; bytes], vec![0; bytes]);
     ticklocust::grow(level, rules.rings, &cloud, &mut grown, &mut work)
-        .map_err(refused(Of::Masks))?;
+        .map_err(|refusal| refused(Of::Masks, refusal))?;
     let Chart { temperatures, ages, .. } = chart;
     ticklocust::day(level, rules.limit, &floats(&news), &grown, temperatures, ages)
-        .map_err(refused(Of::Days))
+        .map_err(|refusal| refused(Of::Days, refusal))
 }
 
 /// What is said of a day.
@@ -147,5 +144,7 @@ fn line(day: &Day, summary: Summary) -> String {
 
 fn rate(days: usize, started: Instant) -> String {
     let seconds = started.elapsed().as_secs_f64().max(1e-6);
-    format!("rate: {days} days in {seconds:.3} s, {:.0} days a second\n", days as f64 / seconds)
+    let rate = days as f64 / seconds;
+    let days = if days == 1 { "1 day".to_string() } else { format!("{days} days") };
+    format!("rate: {days} in {seconds:.3} s, {rate:.0} days a second\n")
 }

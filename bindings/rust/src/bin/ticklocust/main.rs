@@ -1,4 +1,5 @@
-//! The command `ticklocust`: the library's calls on files. `help.rs` documents its statuses.
+//! The command `ticklocust`: the library's calls on files. `help/mod.rs` documents its statuses.
+//! Unsafe code is in `process.rs` alone.
 
 #![deny(unsafe_code)]
 

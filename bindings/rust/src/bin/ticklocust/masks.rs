@@ -1,5 +1,6 @@
 //! `grow`, `shrink`, `join`, `count`, `within`, `fill`.
 
+use std::array::from_fn;
 use std::ffi::{OsStr, OsString};
 use std::process::ExitCode;
 
@@ -41,8 +42,8 @@ impl<'a, const N: usize> Masks<'a, N> {
     }
 
     pub fn refused(&self, refusal: Refusal) -> Trouble {
-        let lengths = self.places.iter().zip(&self.bytes).map(|(p, b)| (*p, b.len(), MOST));
-        lengths_told(Of::Masks, refusal, self.level, lengths).of_level(self.level)
+        let files: [Length; N] = from_fn(|i| (self.places[i], self.bytes[i].len(), MOST));
+        lengths_told(Of::Masks, refusal, self.level, &files).of_level(self.level)
     }
 
     /// Writes the mask that was made of them.
@@ -57,20 +58,19 @@ pub fn level_of(length: usize, unit: usize) -> u32 {
     (0..MAX_MASK_LEVEL).find(|level| unit << (2 * level) >= length).unwrap_or(MAX_MASK_LEVEL)
 }
 
+/// A file that was read, its length, and the most that is read of such a file.
+pub type Length<'a> = (&'a OsStr, usize, usize);
+
 /// A refusal, and where it is one of length the lengths of the files that were read.
-pub fn lengths_told<'a>(
-    of: Of,
-    refusal: Refusal,
-    level: u32,
-    files: impl Iterator<Item = (&'a OsStr, usize, usize)>,
-) -> Trouble {
+pub fn lengths_told(of: Of, refusal: Refusal, level: u32, files: &[Length]) -> Trouble {
     if refusal != Refusal::Length {
         return of.refuses(refusal);
     }
     let lengths: Vec<String> = files
+        .iter()
         .map(|(place, length, most)| {
             let more = if length > most { "more than " } else { "" };
-            let bytes = if length == 1 { "byte" } else { "bytes" };
+            let bytes = if *length == 1 { "byte" } else { "bytes" };
             format!("{} has {more}{} {bytes}", told(place, "standard input"), length.min(most))
         })
         .collect();

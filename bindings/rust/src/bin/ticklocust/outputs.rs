@@ -3,6 +3,7 @@
 use std::ffi::OsStr;
 use std::fs::{self, OpenOptions};
 use std::io::{self, Write};
+use std::os::unix::fs::{fchown, MetadataExt};
 use std::path::{Path, PathBuf};
 use std::process::ExitCode;
 
@@ -161,12 +162,14 @@ fn prepare_all<'a>(targets: &'a [Target]) -> Result<Vec<(Temporary, &'a Path)>, 
     Ok(ready)
 }
 
-/// Writes the bytes under a temporary name beside the target, with the target's permissions.
+/// Writes the bytes under a temporary name beside the target, with the target's permissions and, as
+/// far as that is allowed, its owner.
 fn prepare(target: &Path, bytes: &[u8]) -> io::Result<Temporary> {
     let folder = target.parent().unwrap_or(Path::new("/"));
     let (temporary, mut file) = Temporary::create(folder)?;
     file.write_all(bytes)?;
     if let Ok(about) = fs::metadata(target) {
+        let _ = fchown(&file, Some(about.uid()), Some(about.gid()));
         file.set_permissions(about.permissions())?;
     }
     file.sync_all()?;

@@ -42,17 +42,17 @@ impl Temporary {
     /// Gives it a name that no file has.
     pub fn link(self, target: &Path) -> io::Result<()> {
         match fs::hard_link(&self.0, target) {
-            Ok(()) => synchronise(target),
-            // Some file systems have no links.
-            Err(error) if error.kind() != io::ErrorKind::AlreadyExists => {
-                if fs::symlink_metadata(target).is_ok() {
-                    return Err(io::ErrorKind::AlreadyExists.into());
-                }
-                return rename_all(vec![(self, target)]).map_err(|(_, error)| error);
+            Ok(()) => {
+                synchronise(target);
+                Ok(())
             }
-            Err(error) => return Err(error),
+            Err(error) if error.kind() == io::ErrorKind::AlreadyExists => Err(error),
+            // Some file systems have no links.
+            Err(_) if fs::symlink_metadata(target).is_err() => {
+                rename_all(vec![(self, target)]).map_err(|(_, error)| error)
+            }
+            Err(_) => Err(io::ErrorKind::AlreadyExists.into()),
         }
-        Ok(())
     }
 }
 
