@@ -1,13 +1,10 @@
 //! Runs that are cut short between writing and renaming: the chart is as it was, nothing is left
 //! beside it, and the next run gives the chart of one run.
 
-use std::io::{self, Read, Write};
-use std::os::fd::OwnedFd;
-use std::os::unix::net::UnixStream;
-use std::os::unix::process::ExitStatusExt;
+use std::io;
 use std::process::{Child, Command, Stdio};
-use std::time::{Duration, Instant};
 
+use crate::blocked::{parts, Blocked};
 use crate::days::{begun, held};
 use crate::Folder;
 
@@ -16,77 +13,6 @@ const SAID: &str = "2026-03-09: fresh 5, coldest 16.0 °C, warmest 16.5 °C\n";
 
 fn words() -> Vec<&'static str> {
     DAY.split(' ').collect()
-}
-
-/// A run that has written its temporary file and can't print, since its standard output is full.
-pub struct Blocked {
-    child: Child,
-    reader: UnixStream,
-    filled: usize,
-}
-
-impl Blocked {
-    pub fn start(folder: &Folder, words: &[&str]) -> Blocked {
-        let mut command = folder.command(words);
-        Blocked::run(folder, &mut command)
-    }
-
-    fn run(folder: &Folder, command: &mut Command) -> Blocked {
-        let (reader, writer) = UnixStream::pair().unwrap();
-        let filled = fill(&writer);
-        let before = parts(folder).len();
-        let child = command.stdout(Stdio::from(OwnedFd::from(writer))).spawn().unwrap();
-        let deadline = Instant::now() + Duration::from_secs(20);
-        // A chart of level 0 has 76 bytes.
-        while parts(folder).iter().filter(|length| **length == 76).count() <= before {
-            assert!(Instant::now() < deadline, "no temporary file");
-            std::thread::sleep(Duration::from_millis(2));
-        }
-        Blocked { child, reader, filled }
-    }
-
-    /// Reads its output, so that it ends by itself. Gives its status and what it printed.
-    pub fn release(mut self) -> (Option<i32>, String) {
-        let mut out = Vec::new();
-        self.reader.read_to_end(&mut out).unwrap();
-        (self.child.wait().unwrap().code(), String::from_utf8(out.split_off(self.filled)).unwrap())
-    }
-
-    /// Ends it by a signal and gives the signal that it ended by.
-    fn end(mut self, signal: &str) -> Option<i32> {
-        self.signal(signal);
-        self.child.wait().unwrap().signal()
-    }
-
-    fn signal(&self, signal: &str) {
-        let kill = format!("kill -{signal} {}", self.child.id());
-        assert!(Command::new("sh").args(["-c", &kill]).status().unwrap().success());
-    }
-}
-
-/// Fills a socket until not one byte more can be written to it.
-fn fill(mut writer: &UnixStream) -> usize {
-    writer.set_nonblocking(true).unwrap();
-    let (mut filled, block) = (0, [b'.'; 4096]);
-    for size in [block.len(), 1] {
-        loop {
-            match writer.write(&block[..size]) {
-                Ok(written) => filled += written,
-                Err(error) if error.kind() == io::ErrorKind::WouldBlock => break,
-                Err(error) => panic!("{error}"),
-            }
-        }
-    }
-    writer.set_nonblocking(false).unwrap();
-    filled
-}
-
-/// The lengths of the temporary files in a folder.
-fn parts(folder: &Folder) -> Vec<usize> {
-    let all = folder.all().into_iter();
-    all.filter(|(path, _)| path.extension().is_some_and(|e| e == "part"))
-        .map(|(_, b)| b.len())
-        .collect()
 }
 
 /// The day is run after a failure and gives the chart of one run.
@@ -114,7 +40,10 @@ fn signals_remove_temporary_files() {
     for (name, number) in [("INT", 2), ("TERM", 15), ("HUP", 1)] {
         let folder = begun();
         let before = folder.all();
-        assert_eq!(Blocked::start(&folder, &words()).end(name), Some(number), "{name}");
+        // A shell starts background jobs with SIGINT ignored, and tests may be run in one.
+        let script = "exec env --default-signal=HUP,INT,TERM \"$0\" \"$@\"";
+        let run = Blocked::run(&folder, &mut folder.shell(script, &words()));
+        assert_eq!(run.end(name), Some(number), "{name}");
         assert_eq!(folder.all(), before, "{name}");
         retried(&folder);
     }
@@ -137,9 +66,7 @@ fn a_broken_pipe_changes_nothing() {
     let (reader, writer) = io::pipe().unwrap();
     drop(reader);
     let piped = folder.command(&words()).stdout(writer).output().unwrap();
-    let blocked = Blocked::start(&folder, &words());
-    drop(blocked.reader);
-    for output in [piped, blocked.child.wait_with_output().unwrap()] {
+    for output in [piped, Blocked::start(&folder, &words()).abandon()] {
         assert_eq!(output.status.code(), Some(141));
         let told = "ticklocust: standard output: broken pipe; no file is changed\n";
         assert_eq!(String::from_utf8(output.stderr).unwrap(), told);

@@ -3,8 +3,8 @@
 
 use std::fs::OpenOptions;
 
+use crate::blocked::Blocked;
 use crate::charts::floats;
-use crate::crashes::Blocked;
 use crate::days::{begun, held, put_day};
 
 const DAY: &str = "day --rings 0 --limit 30 --date 2026-03-09 news cloud c";

@@ -1,5 +1,6 @@
 //! The command, run as people run it: what it prints, its status, and the files it leaves.
 
+mod blocked;
 mod charts;
 mod crashes;
 mod damage;
