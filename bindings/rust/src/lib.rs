@@ -3,16 +3,17 @@
 //! `libticklocust.a`.
 //!
 //! Each function makes one call of `include/ticklocust.h` and has its name there. It returns its
-//! result or a [`Refusal`], whose number is that of document 01's table; a refused call leaves
-//! every slice as it was. Nothing is allocated and no state is kept between calls, so several
+//! result or a [`Refusal`], whose number is that of the table in docs/RULES.md, 9; a refused call
+//! leaves every slice as it was. Nothing is allocated and no state is kept between calls, so several
 //! threads may call at once, each with its own slices.
 //!
 //! - Places: [`cell_at`] and [`centre`], with [`Latitude`] and [`Longitude`] as separate types;
-//!   [`step`], [`code`] and [`touching`].
-//! - Borders in their stored form: [`border_read`] and [`border_write`].
+//!   [`step`], [`code`] and [`touching`]. The rules: docs/RULES.md, 1 to 5.
 //! - Masks, byte slices with one bit per cell: [`grow`], [`shrink`], [`join`], [`count`],
-//!   [`within`] and [`fill`].
-//! - Charts, a slice of temperatures and one of ages: [`reading`] and [`day`].
+//!   [`within`] and [`fill`]. The rules: docs/RULES.md, 6.
+//! - Charts, a slice of temperatures and one of ages: [`reading`] and [`day`]. The rules:
+//!   docs/RULES.md, 7.
+//! - Borders in their stored form: [`border_read`] and [`border_write`]. The rules: docs/RULES.md, 8.
 //!
 //! ```
 //! use ticklocust::{cell_at, centre, Latitude, Longitude};

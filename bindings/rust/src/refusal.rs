@@ -5,8 +5,9 @@ use std::fmt;
 
 /// Why a call was refused. A refused call has written nothing.
 ///
-/// [`number`](Refusal::number) is the number in document 01's table: one for each refusal, the same
-/// in every language and program of the project. It is displayed as a sentence.
+/// [`number`](Refusal::number) is the number in the table of refused calls (docs/RULES.md, 9): one
+/// for each refusal, the same in every language and program of the project. It is displayed as a
+/// sentence.
 ///
 /// ```
 /// use ticklocust::Refusal;
@@ -66,7 +67,7 @@ impl Refusal {
         Refusal::Rest,
     ];
 
-    /// The number in document 01's table, 1 to 12.
+    /// The number in the table of docs/RULES.md, 9: 1 to 12.
     #[must_use]
     pub const fn number(self) -> u32 {
         self as u32

@@ -1,7 +1,9 @@
 //! Standard input and output, files written whole or not at all, pipes that break.
 
+use std::ffi::OsStr;
 use std::fs;
 use std::io::Write;
+use std::os::unix::ffi::OsStrExt;
 use std::os::unix::fs::{symlink, PermissionsExt};
 use std::process::Stdio;
 
@@ -16,21 +18,18 @@ fn dash_is_standard_input_and_output() {
     let said = folder.run(&["border", "read", "-", "-"], &[4, 0, 2, 11]);
     assert_eq!(said.out, b"level 4\n0\n13\n3\n");
     assert_eq!(folder.run(&["border", "write", "-", "-"], &said.out).out, [4, 0, 2, 11]);
-    folder.put("a", &[0; 8]);
-    let temperatures: Vec<u8> = [21f32; 8].iter().flat_map(|t| t.to_le_bytes()).collect();
-    assert_eq!(folder.run(&["reading", "0", "-", "a"], &temperatures).out, b"fresh 21.0\n");
-    // One half of the chart on standard output: the summary gives way.
-    folder.put("news", &temperatures);
-    folder.put("cloud", &[0]);
-    let said = folder.run(&["day", "--limit", "1", "news", "cloud", "-", "a"], &temperatures);
-    assert_eq!((said.status, said.out), (0, temperatures));
+    let said =
+        folder.run(&"chart new --level 0 --date 2026-03-08 -".split(' ').collect::<Vec<_>>(), &[]);
+    assert_eq!((said.status, said.out.len()), (0, 76));
+    let said = folder.run(&["reading", "0", "-"], &said.out);
+    assert_eq!((said.status, said.out), (0, b"gap, chart of 2026-03-08\n".to_vec()));
 }
 
 #[test]
 fn standard_input_that_never_ends_is_cut_off() {
     let folder = Folder::new();
     folder.refused("count /dev/zero", 5);
-    folder.refused("reading 0 /dev/zero /dev/zero", 5);
+    folder.wrong(&["reading", "0", "/dev/zero"], "/dev/zero: is not a chart file");
     folder.refused("border read /dev/zero", 12);
 }
 
@@ -48,16 +47,79 @@ fn a_file_is_written_whole_or_not_at_all() {
 }
 
 #[test]
-fn both_halves_of_a_chart_or_none() {
+fn no_output_is_an_input() {
     let folder = Folder::new();
-    folder.put("t", &[0; 32]);
-    folder.put("a", &[255; 8]);
+    folder.put("a", &[1]);
+    folder.put("b", &[3]);
+    folder.put("text", b"level 4\n0\n13\n3\n");
+    folder.put("stored", &[4, 0, 2, 11]);
+    folder.prints("chart new --level 0 --date 2026-03-08 c", "");
+    fs::create_dir(folder.0.join("in")).unwrap();
+    fs::hard_link(folder.0.join("a"), folder.0.join("in/hard")).unwrap();
+    symlink("../b", folder.0.join("in/soft")).unwrap();
+    for line in [
+        "grow --rings 1 a a",
+        "shrink --rings 1 a ./in/../a",
+        "join a b in/hard",
+        "join a b in/soft",
+        "fill --outside 6 a in/hard",
+        "mask and a b b",
+        "mask minus a b a",
+        "mask not in/soft b",
+        "border read stored stored",
+        "border write text text",
+        "border mask stored stored",
+        "chart export c t c",
+    ] {
+        folder.wrong_line(line, ": is also read (");
+    }
+    folder.wrong_line("chart export c out out", "out: can be written once only");
+    folder.wrong_line("chart export c - -", "standard output: can be written once only");
+}
+
+#[test]
+fn redirected_streams_are_known() {
+    let folder = Folder::new();
+    folder.put("a", &[1]);
+    folder.put("text", b"0\n");
+    folder.prints("chart new --level 0 --date 2026-03-08 c", "");
+    let before = folder.all();
+    for (script, told) in [
+        ("\"$0\" grow --rings 1 - a <a", "a: is also read (standard input)"),
+        ("\"$0\" grow --rings 1 a - >>a", "standard output: is also read (a)"),
+        ("\"$0\" grow --rings 1 - - <a 1<>a", "standard output: is also read (standard input)"),
+        ("\"$0\" count a >>a", "standard output: is also read (a)"),
+        ("\"$0\" mask mark --level 0 text <text", "text: is also read (standard input)"),
+        ("\"$0\" chart info c >>c", "standard output: is also read (c)"),
+        ("\"$0\" chart export c a - >>a", "standard output: can be written once only"),
+    ] {
+        let output = folder.shell(script, &[]).output().unwrap();
+        let said = String::from_utf8(output.stderr).unwrap();
+        assert!(said.contains(told), "{script}: {said}");
+        assert_eq!(output.status.code(), Some(2), "{script}");
+        assert_eq!(folder.all(), before, "{script}");
+    }
+}
+
+#[test]
+fn what_a_redirected_file_had_stays() {
+    let folder = Folder::new();
+    folder.put("m", &[1]);
+    folder.put("log", b"older ");
+    let status = folder.shell("\"$0\" grow --rings 1 m /dev/stdout >>log", &[]).status().unwrap();
+    assert_eq!((status.code(), folder.get("log")), (Some(0), b"older \xBF".to_vec()));
+}
+
+#[test]
+fn names_need_not_be_text() {
+    let folder = Folder::new();
+    folder.prints("chart new --level 0 --date 2026-03-08 c", "");
     folder.put("news", &[0; 32]);
     folder.put("cloud", &[0]);
-    let words = ["day", "--limit", "1", "news", "cloud", "t", "a", "--to-ages", "no/such/a"];
-    folder.wrong(&words, "no/such/a: No such file");
-    let words = ["day", "--limit", "1", "news", "cloud", "t", "a", "--to-ages", "t"];
-    folder.wrong(&words, "t: File exists");
+    let mut command = folder.command(&["day", "--rings=0", "--limit=1", "--date=2026-03-09"]);
+    command.args(["news", "cloud", "c"]).arg(OsStr::from_bytes(b"--to=\xFF"));
+    assert_eq!(command.stdout(Stdio::null()).status().unwrap().code(), Some(0));
+    assert_eq!(fs::read(folder.0.join(OsStr::from_bytes(b"\xFF"))).unwrap().len(), 76);
 }
 
 #[test]
@@ -111,5 +173,5 @@ fn a_closed_standard_error_is_no_panic() {
         .stderr(fs::OpenOptions::new().write(true).open("/dev/full").unwrap())
         .spawn()
         .unwrap();
-    assert_eq!(child.wait().unwrap().code(), Some(1));
+    assert_eq!(child.wait().unwrap().code(), Some(3));
 }

@@ -1,146 +1,123 @@
-//! `reading`, `day`.
+//! `chart new`, `chart import`, `chart export`, `chart info`, `chart list`, `reading`.
 
-use std::ffi::{OsStr, OsString};
+use std::collections::BTreeMap;
+use std::ffi::OsString;
+use std::fmt::Write;
 
-use ticklocust::{chart_len, Refusal, Summary, MAX_MASK_LEVEL};
+use ticklocust::Reading;
 
-use crate::days::{Day, Progress};
-use crate::files::{once, read, say, write_all};
-use crate::masks::{self, lengths_told, level_of};
-use crate::trouble::{Done, Trouble};
-use crate::words::{whole, Words};
+use crate::chart_file::{floats, Chart, MOST_AGES, MOST_TEMPERATURES};
+use crate::files::Inputs;
+use crate::held::read;
+use crate::masks::{lengths_told, level_of};
+use crate::numbers::{degrees, whole};
+use crate::outputs::{say, write, write_new};
+use crate::trouble::{Done, Of, Trouble};
+use crate::words::Words;
 
-/// The most bytes of a chart's ages, and of its temperatures.
-const MOST_AGES: usize = 8 << (2 * MAX_MASK_LEVEL);
-const MOST_TEMPERATURES: usize = 4 * MOST_AGES;
-
-/// A chart that was read, or one of gaps.
-struct Chart {
-    temperatures: Vec<f32>,
-    ages: Vec<u8>,
+pub fn none(words: &[OsString]) -> Done {
+    Words::sort(words, &[])?;
+    Err(Trouble::usage("chart is followed by new, import, export, info or list"))
 }
 
-impl Chart {
-    fn read<'a>(
-        lengths: &mut Lengths<'a>,
-        temperatures: &'a OsStr,
-        ages: &'a OsStr,
-    ) -> Result<Chart, Trouble> {
-        let temperatures = floats(&lengths.read(temperatures, MOST_TEMPERATURES)?);
-        Ok(Chart { temperatures, ages: lengths.read(ages, MOST_AGES)? })
-    }
-
-    /// A chart of gaps, as a day leaves them. Above level 8 the library refuses the level.
-    fn gaps(level: u32) -> Chart {
-        let cells = chart_len(level).unwrap_or(0);
-        Chart { temperatures: vec![0.0; cells], ages: vec![255; cells] }
-    }
-
-    /// The bytes of the temperatures' file.
-    fn bytes(&self) -> Vec<u8> {
-        self.temperatures.iter().flat_map(|t| t.to_le_bytes()).collect()
-    }
+pub fn new(words: &[OsString]) -> Done {
+    let words = Words::sort(words, &["level", "date"])?;
+    let [place] = words.places(["CHART"])?;
+    let (level, date) = (words.needed("level")?, words.date("date")?);
+    let chart = Chart::gaps(level, date).map_err(|refusal| Of::Masks.refuses(refusal))?;
+    write_new(&Inputs::default(), place, &chart.encode())
 }
 
-/// The temperatures of a file: four bytes each, the low one first. A file that ends within one has
-/// none, so that the library refuses its length.
-fn floats(bytes: &[u8]) -> Vec<f32> {
-    let quads = bytes.chunks_exact(4);
-    if !quads.remainder().is_empty() {
-        return Vec::new();
-    }
-    quads.map(|b| f32::from_le_bytes([b[0], b[1], b[2], b[3]])).collect()
+pub fn import(words: &[OsString]) -> Done {
+    let words = Words::sort(words, &["level", "date"])?;
+    let [temperatures, ages, place] = words.places(["TEMPERATURES", "AGES", "CHART"])?;
+    let (given, date) = (words.number("level")?, words.date("date")?);
+    let mut inputs = Inputs::default();
+    let bytes = inputs.read(temperatures, MOST_TEMPERATURES)?;
+    let lengths = (temperatures, bytes.len(), MOST_TEMPERATURES);
+    let temperatures = floats(&bytes);
+    let bytes = inputs.read(ages, MOST_AGES)?;
+    let lengths = [lengths, (ages, bytes.len(), MOST_AGES)];
+    let level = given.unwrap_or_else(|| level_of(bytes.len(), 8));
+    let chart = Chart { date, level, temperatures, ages: bytes };
+    // Any reading checks both lengths.
+    chart.reading(0).map_err(|refusal| lengths_told(Of::Masks, refusal, level, &lengths))?;
+    write_new(&inputs, place, &chart.encode())
 }
 
-/// Reads files and notes their lengths, to be told where the library refuses one.
-#[derive(Default)]
-struct Lengths<'a>(Vec<(&'a OsStr, usize, usize)>);
+pub fn export(words: &[OsString]) -> Done {
+    let words = Words::sort(words, &[])?;
+    let [place, temperatures, ages] = words.places(["CHART", "TEMPERATURES", "AGES"])?;
+    let mut inputs = Inputs::default();
+    let chart = read(&mut inputs, place)?;
+    write(&inputs, &[(temperatures, &chart.temperature_bytes()), (ages, &chart.ages)], "")
+}
 
-impl<'a> Lengths<'a> {
-    fn read(&mut self, place: &'a OsStr, most: usize) -> Result<Vec<u8>, Trouble> {
-        let bytes = read(place, most)?;
-        self.0.push((place, bytes.len(), most));
-        Ok(bytes)
+pub fn info(words: &[OsString]) -> Done {
+    let words = Words::sort(words, &[])?;
+    let [place] = words.places(["CHART"])?;
+    let mut inputs = Inputs::default();
+    let chart = read(&mut inputs, place)?;
+    let (mut fresh, mut gap, mut carried) = (0, 0, BTreeMap::new());
+    for (_, reading) in readings(&chart)? {
+        match reading {
+            Reading::Fresh(_) => fresh += 1,
+            Reading::Carried(_, days) => *carried.entry(days).or_insert(0) += 1,
+            Reading::Gap => gap += 1,
+        }
     }
+    let all: u32 = carried.values().sum();
+    let mut text = format!("date {}\nlevel {}\n", chart.date, chart.level);
+    text += &format!("fresh {fresh}\ncarried {all}\ngap {gap}\n");
+    for (days, cells) in carried {
+        let _ = writeln!(text, "carried-days {days} {cells}");
+    }
+    say(&inputs, &text)
+}
 
-    fn refused(&self, refusal: Refusal, level: u32) -> Trouble {
-        lengths_told(refusal, level, self.0.iter().copied())
+pub fn list(words: &[OsString]) -> Done {
+    let words = Words::sort(words, &[])?;
+    let [place] = words.places(["CHART"])?;
+    let mut inputs = Inputs::default();
+    let chart = read(&mut inputs, place)?;
+    let mut text = "cell\tlatitude\tlongitude\tkind\ttemperature\tdays\n".to_string();
+    for (cell, reading) in readings(&chart)? {
+        let (latitude, longitude) =
+            ticklocust::centre(chart.level, cell).map_err(|refusal| Of::Cells.refuses(refusal))?;
+        let _ = write!(text, "{cell}\t{}\t{}\t", degrees(latitude.0), degrees(longitude.0));
+        let _ = match reading {
+            Reading::Fresh(temperature) => writeln!(text, "fresh\t{temperature:?}\t0"),
+            Reading::Carried(temperature, days) => {
+                writeln!(text, "carried\t{temperature:?}\t{days}")
+            }
+            Reading::Gap => writeln!(text, "gap\t\t"),
+        };
     }
+    say(&inputs, &text)
+}
+
+/// The cells with their readings.
+fn readings(chart: &Chart) -> Result<Vec<(u32, Reading)>, Trouble> {
+    let reading = |(cell, _)| {
+        let reading = chart.reading(cell).map_err(|refusal| Of::Masks.refuses(refusal))?;
+        Ok((cell, reading))
+    };
+    (0..).zip(&chart.ages).map(reading).collect()
 }
 
 pub fn reading(words: &[OsString]) -> Done {
-    let words = Words::sort(words, &["level"], &[])?;
-    let [cell, temperatures, ages] = words.places(["CELL", "TEMPERATURES", "AGES"])?;
-    let (cell, given) = (whole("CELL", cell)?, words.number("level")?);
-    once(&[temperatures, ages], "standard input")?;
-    let mut lengths = Lengths::default();
-    let chart = Chart::read(&mut lengths, temperatures, ages)?;
-    let level = given.unwrap_or_else(|| level_of(chart.ages.len(), 8));
-    let reading = ticklocust::reading(level, cell, &chart.temperatures, &chart.ages)
-        .map_err(|refusal| lengths.refused(refusal, level))?;
-    say(&format!("{reading}\n"))
-}
-
-pub fn day(words: &[OsString]) -> Done {
-    let words = Words::sort(words, &["level", "limit", "to-temperatures", "to-ages"], &["new"])?;
-    let (limit, level, new) = (words.needed("limit")?, words.number("level")?, words.flag("new"));
-    let (days, temperatures, ages) = if words.count() <= 3 {
-        let [folder, temperatures, ages] = words.places(["FOLDER", "TEMPERATURES", "AGES"])?;
-        (Day::all(folder)?, temperatures, ages)
-    } else {
-        let [news, cloud, temperatures, ages] =
-            words.places(["NEWS", "CLOUD", "TEMPERATURES", "AGES"])?;
-        (vec![Day::one(news, cloud)], temperatures, ages)
+    let words = Words::sort(words, &[])?;
+    let [cell, place] = words.places(["CELL", "CHART"])?;
+    let cell = whole("CELL", &cell.to_string_lossy())?;
+    let mut inputs = Inputs::default();
+    let chart = read(&mut inputs, place)?;
+    let reading =
+        chart.reading(cell).map_err(|refusal| Of::Masks.refuses(refusal).of_level(chart.level))?;
+    let reading = match reading {
+        Reading::Fresh(temperature) => format!("fresh {temperature:?} °C"),
+        Reading::Carried(temperature, 1) => format!("carried {temperature:?} °C, 1 day"),
+        Reading::Carried(temperature, days) => format!("carried {temperature:?} °C, {days} days"),
+        Reading::Gap => "gap".to_string(),
     };
-    let to_temperatures = words.option("to-temperatures").unwrap_or(temperatures);
-    let to_ages = words.option("to-ages").unwrap_or(ages);
-    once(&[to_temperatures, to_ages], "standard output")?;
-    let mut inputs: Vec<&OsStr> = days.iter().flat_map(Day::files).collect();
-    if !new {
-        inputs.extend([temperatures, ages]);
-    }
-    once(&inputs, "standard input")?;
-
-    let mut lengths = Lengths::default();
-    let chart = if new { None } else { Some(Chart::read(&mut lengths, temperatures, ages)?) };
-    let (chart, told) = run(&days, limit, level, chart, &mut lengths)?;
-    write_all(&[(to_temperatures, &chart.bytes()), (to_ages, &chart.ages)])?;
-    let taken = to_temperatures == "-" || to_ages == "-";
-    say(if taken { "" } else { &told })
-}
-
-/// Runs the days. Gives the chart, and what is to be said of each day.
-fn run<'a>(
-    days: &'a [Day],
-    limit: u32,
-    mut level: Option<u32>,
-    mut chart: Option<Chart>,
-    lengths: &mut Lengths<'a>,
-) -> Result<(Chart, String), Trouble> {
-    let mut progress = Progress::new(days.len());
-    let mut told = String::new();
-    let of_chart = lengths.0.len();
-    for day in days {
-        progress.show(&day.name);
-        lengths.0.truncate(of_chart);
-        let news = floats(&lengths.read(&day.news, MOST_TEMPERATURES)?);
-        let cloud = lengths.read(&day.cloud, masks::MOST)?;
-        let level = *level.get_or_insert_with(|| level_of(cloud.len(), 1));
-        let Chart { temperatures, ages } = chart.get_or_insert_with(|| Chart::gaps(level));
-        let summary = ticklocust::day(level, limit, &news, &cloud, temperatures, ages)
-            .map_err(|refusal| lengths.refused(refusal, level))?;
-        told += &line(&day.name, summary);
-    }
-    // There is a day, so there is a chart.
-    Ok((chart.unwrap_or_else(|| Chart::gaps(0)), told))
-}
-
-/// What is said of a day.
-fn line(name: &str, summary: Summary) -> String {
-    let name = if name.is_empty() { String::new() } else { format!("{name}: ") };
-    let Summary { count, coldest, warmest } = summary;
-    match count {
-        0 => format!("{name}fresh 0\n"),
-        _ => format!("{name}fresh {count}, coldest {coldest:?}, warmest {warmest:?}\n"),
-    }
+    say(&inputs, &format!("{reading}, chart of {}\n", chart.date))
 }

@@ -1,100 +1,105 @@
-//! The days that are run: one by its two files, or all of a folder in the order of their names.
+//! The days that are run: one by its two files, or all of a folder, in the order of their dates.
 
 use std::collections::BTreeMap;
 use std::ffi::{OsStr, OsString};
 use std::fs;
-use std::io::{self, IsTerminal, Write};
 use std::path::{Path, PathBuf};
-use std::time::{Duration, Instant};
 
+use crate::dates::Date;
 use crate::trouble::Trouble;
 
-/// A day's two files. Its name is empty where it is not from a folder.
+/// A day with its temperatures and its cloud mask; without, it is run as all cloud.
 pub struct Day {
-    pub name: String,
-    pub news: OsString,
-    pub cloud: OsString,
+    pub date: Date,
+    pub files: Option<[OsString; 2]>,
 }
 
-impl Day {
-    pub fn one(news: &OsStr, cloud: &OsStr) -> Day {
-        Day { name: String::new(), news: news.into(), cloud: cloud.into() }
-    }
+const ENDINGS: [&str; 2] = ["temperatures", "cloud"];
 
-    /// The days of a folder: DAY.temperatures and DAY.cloud, sorted by DAY. Other files are left
-    /// alone; one of the two without the other is an error.
-    pub fn all(folder: &OsStr) -> Result<Vec<Day>, Trouble> {
-        let trouble = |error| Trouble::File(folder.to_string_lossy().into_owned(), error);
-        let mut files: BTreeMap<OsString, [Option<PathBuf>; 2]> = BTreeMap::new();
-        for entry in fs::read_dir(folder).map_err(trouble)? {
-            let path = entry.map_err(trouble)?.path();
-            let kind = match path.extension().and_then(OsStr::to_str) {
-                Some("temperatures") => 0,
-                Some("cloud") => 1,
-                _ => continue,
-            };
-            if let Some(name) = path.file_stem().map(OsStr::to_os_string) {
-                files.entry(name).or_default()[kind] = Some(path);
-            }
-        }
-        if files.is_empty() {
-            let folder = folder.to_string_lossy();
-            let what = format!("{folder} has no days (DAY.temperatures and DAY.cloud)");
-            return Err(Trouble::usage("", what));
-        }
-        let day = |(name, files): (OsString, [Option<PathBuf>; 2])| {
-            let name = name.to_string_lossy().into_owned();
-            match files {
-                [Some(news), Some(cloud)] => {
-                    Ok(Day { name, news: news.into(), cloud: cloud.into() })
-                }
-                [news, _] => {
-                    let missing = if news.is_none() { "temperatures" } else { "cloud" };
-                    let path = Path::new(folder).join(format!("{name}.{missing}"));
-                    Err(Trouble::usage("", format!("{} is missing", path.display())))
-                }
-            }
+/// The days of a folder, DATE.temperatures and DATE.cloud. There is nothing else in it.
+pub fn of_folder(folder: &OsStr) -> Result<Vec<Day>, Trouble> {
+    let trouble = |error| Trouble::file(folder.to_string_lossy(), error);
+    let mut days: BTreeMap<Date, [Option<PathBuf>; 2]> = BTreeMap::new();
+    for entry in fs::read_dir(folder).map_err(trouble)? {
+        let path = entry.map_err(trouble)?.path();
+        let Some((date, ending)) = date_and_ending(&path) else {
+            let what = "is not named DATE.temperatures or DATE.cloud, with DATE as YYYY-MM-DD: \
+                        move it to another folder";
+            return Err(Trouble::file(path.to_string_lossy(), what));
         };
-        files.into_iter().map(day).collect()
+        days.entry(date).or_default()[ending] = Some(path);
     }
-
-    pub fn files(&self) -> [&OsStr; 2] {
-        [&self.news, &self.cloud]
+    if days.is_empty() {
+        let what = "has no days (DATE.temperatures and DATE.cloud)";
+        return Err(Trouble::file(folder.to_string_lossy(), what));
     }
-}
-
-/// How far a run of many days is: one line on standard error, where that is a terminal.
-pub struct Progress {
-    days: usize,
-    done: usize,
-    shown: Option<Instant>,
-    silent: bool,
-}
-
-impl Progress {
-    pub fn new(days: usize) -> Progress {
-        let silent = days < 2 || !io::stderr().is_terminal();
-        Progress { days, done: 0, shown: None, silent }
-    }
-
-    /// Shows the day that is begun, at most ten times a second.
-    pub fn show(&mut self, name: &str) {
-        self.done += 1;
-        let soon = self.shown.is_some_and(|shown| shown.elapsed() < Duration::from_millis(100));
-        if self.silent || soon {
-            return;
+    let day = |(date, files): (Date, [Option<PathBuf>; 2])| match files {
+        [Some(news), Some(cloud)] => Ok(Day { date, files: Some([news.into(), cloud.into()]) }),
+        [news, _] => {
+            let missing = format!("{date}.{}", ENDINGS[usize::from(news.is_some())]);
+            let path = Path::new(folder).join(missing);
+            Err(Trouble::file(path.to_string_lossy(), "is missing"))
         }
-        self.shown = Some(Instant::now());
-        let (done, days) = (self.done, self.days);
-        let _ = write!(io::stderr(), "\r\x1b[Kday {done} of {days}: {name}");
-    }
+    };
+    days.into_iter().map(day).collect()
 }
 
-/// The line is taken away when the run ends, however it ends.
-impl Drop for Progress {
-    fn drop(&mut self) {
-        if self.shown.is_some() {
-            let _ = write!(io::stderr(), "\r\x1b[K");
+fn date_and_ending(path: &Path) -> Option<(Date, usize)> {
+    let (date, ending) = path.file_name()?.to_str()?.split_once('.')?;
+    Some((Date::parse(date)?, ENDINGS.iter().position(|name| *name == ending)?))
+}
+
+/// The days to run after the date of the chart of this name: those given, and if `missing` is true
+/// those that are missing before or between them.
+pub fn plan(name: &str, date: Date, days: Vec<Day>, missing: bool) -> Result<Vec<Day>, Trouble> {
+    let mut planned = Vec::new();
+    let mut last = date;
+    for day in days {
+        if day.date <= last {
+            let what = format!("{} is not after its date, {last}: nothing is changed", day.date);
+            return Err(Trouble::Date(format!("{name}: {what}")));
+        }
+        let skipped = day.date.number() - last.number() - 1;
+        if skipped > 0 && !missing {
+            let are = if skipped == 1 { "day is" } else { "days are" };
+            let what = format!("{skipped} {are} missing between {last} and {}", day.date);
+            let way_out = "Run what is missing first, or as all cloud with --missing cloud";
+            return Err(Trouble::Date(format!("{name}: {what}: nothing is changed. {way_out}")));
+        }
+        while last.next() < day.date {
+            last = last.next();
+            planned.push(Day { date: last, files: None });
+        }
+        last = day.date;
+        planned.push(day);
+    }
+    Ok(planned)
+}
+
+#[cfg(test)]
+mod tests {
+    use super::*;
+
+    fn planned(chart: &str, days: &[&str], missing: bool) -> Result<String, Trouble> {
+        let date = |text: &str| Date::parse(text).unwrap();
+        let day = |text: &&str| Day { date: date(text), files: Some(["n".into(), "c".into()]) };
+        let planned = plan("c", date(chart), days.iter().map(day).collect(), missing)?;
+        let told =
+            |day: &Day| format!("{}{}", day.date, if day.files.is_some() { "" } else { "?" });
+        Ok(planned.iter().map(told).collect::<Vec<_>>().join(" "))
+    }
+
+    #[test]
+    fn days_follow_the_chart() {
+        assert_eq!(planned("2026-12-31", &["2027-01-01"], false).unwrap(), "2027-01-01");
+        let days = ["2024-02-28", "2024-03-02"];
+        assert_eq!(
+            planned("2024-02-27", &days, true).unwrap(),
+            "2024-02-28 2024-02-29? 2024-03-01? 2024-03-02"
+        );
+        for (day, missing) in [("2024-02-27", true), ("2024-02-26", true), ("2024-02-29", false)] {
+            let refused = planned("2024-02-27", &[day], missing);
+            assert!(matches!(refused, Err(Trouble::Date(_))), "{day}");
         }
     }
 }
