@@ -1,4 +1,4 @@
-//! The numbers of refused calls (document 01, "Refused calls").
+//! The numbers of refused calls (docs/RULES.md, 9).
 //! A call tests for them in rising order, so that the lowest that applies is given; the stored
 //! border has its own order, written in its module.
 
