@@ -72,12 +72,12 @@ _SENTENCES = {
     2: "the latitude is outside its range: -90000000 to 90000000 millionths of a degree",
     3: "the longitude is outside its range: -180000000 to 179999999 millionths of a degree",
     4: "the cell number is not below 8 x 4^level",
-    5: "a slice is not of the length that the level asks for; for borders, too short, or no cells",
-    6: "more than 64 rings, or more than 30 days",
-    7: "there is no such step: a code above 7, a code that is absent there, or two cells that no "
-    "code joins",
+    5: "a slice is not of its exact length; for borders it is too short, or there are no cells",
+    6: "the rings are above 64, or the days above 30",
+    7: "there is no such step: the code is above 7 or absent there, or no code joins the two "
+    "cells",
     8: "the outside cell is marked",
-    9: "the border has more than 4096 codes",
+    9: "there are more than 4096 codes",
     10: "the bytes end early",
     11: "a stored number is not in its form: shortest, at most five bytes, below 2^32",
     12: "pad bits are not zero, or bytes are left over",
