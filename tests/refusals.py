@@ -1,4 +1,4 @@
-"""Compares every copy of the table of refusals with include/ticklocust.h: numbers, names, sentences.
+"""Compares every copy of the table of refusals with include/ticklocust.h.
 
 The header's function, the Rust crate and the Python module show a whole sentence, the same in all
 three. docs/RULES.md, 9, crates/refusal, the documentation of Rust's enum and the model have its
