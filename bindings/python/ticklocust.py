@@ -14,7 +14,7 @@ call makes one. Other threads run during a call; they must not change its buffer
 
 A numpy masked array raises TypeError, even if no element is masked: a buffer carries no mask, so
 masked cells would become fresh. array.filled(float("nan")) makes plain temperatures, which are out
-of range where they were masked. Only border_write takes cells that are not a buffer, as a list.
+of range where they were masked. Only border_write takes cells that are not a buffer, in a list.
 
     >>> cell = cell_at(1, Latitude(22_500_000), Longitude(30_000_000))
     >>> cell, centre(1, cell)

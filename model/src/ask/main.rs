@@ -47,6 +47,9 @@ fn main() -> ExitCode {
         [] | ["--help" | "-h" | "help"] => print(&help()).map(|()| true),
         ["--cases", file] => answer_cases(file),
         ["--addresses", call, ref words @ ..] => ask(call, words, Cells::Addresses),
+        [option, ..] if option.starts_with('-') => {
+            Err(format!("{option} is no option, or its words are wrong: see model/ask --help"))
+        }
         [call, ref words @ ..] => ask(call, words, Cells::Numbers),
     };
     match done {
