@@ -54,21 +54,55 @@ extern "C" {
 /* What a function returns (docs/RULES.md, 9): one number for each refusal. */
 enum ticklocust_refusal {
     TICKLOCUST_ACCEPTED = 0,
-    TICKLOCUST_REFUSED_LEVEL = 1,     /* level above its bound */
-    TICKLOCUST_REFUSED_LATITUDE = 2,  /* latitude outside its range */
-    TICKLOCUST_REFUSED_LONGITUDE = 3, /* longitude outside its range */
-    TICKLOCUST_REFUSED_CELL = 4,      /* cell number not below 8 * 4^level */
-    TICKLOCUST_REFUSED_LENGTH = 5,    /* slice not of the exact length; for borders, too short, or
-                                         no cells */
-    TICKLOCUST_REFUSED_COUNT = 6,     /* rings above 64, days above 30 */
-    TICKLOCUST_REFUSED_STEP = 7,      /* no such step: code above 7, code that the cell doesn't
-                                         have, or two cells that no code joins */
-    TICKLOCUST_REFUSED_OUTSIDE = 8,   /* the outside cell is marked */
-    TICKLOCUST_REFUSED_CODES = 9,     /* more than 4,096 codes */
-    TICKLOCUST_REFUSED_SHORT = 10,    /* bytes end early */
-    TICKLOCUST_REFUSED_FORM = 11,     /* stored number not in its form */
-    TICKLOCUST_REFUSED_REST = 12      /* pad bits not zero, or bytes left over */
+    TICKLOCUST_REFUSED_LEVEL = 1,
+    TICKLOCUST_REFUSED_LATITUDE = 2,
+    TICKLOCUST_REFUSED_LONGITUDE = 3,
+    TICKLOCUST_REFUSED_CELL = 4,
+    TICKLOCUST_REFUSED_LENGTH = 5,
+    TICKLOCUST_REFUSED_COUNT = 6,
+    TICKLOCUST_REFUSED_STEP = 7,
+    TICKLOCUST_REFUSED_OUTSIDE = 8,
+    TICKLOCUST_REFUSED_CODES = 9,
+    TICKLOCUST_REFUSED_SHORT = 10,
+    TICKLOCUST_REFUSED_FORM = 11,
+    TICKLOCUST_REFUSED_REST = 12
 };
+
+/* The sentence of a returned number. It lives here and not in the archive, which has no data. */
+static inline const char *ticklocust_refusal_text(uint32_t number) {
+    switch (number) {
+    case TICKLOCUST_ACCEPTED:
+        return "the call is accepted";
+    case TICKLOCUST_REFUSED_LEVEL:
+        return "the level is above its bound: 14 for cells and borders, 8 for masks and charts";
+    case TICKLOCUST_REFUSED_LATITUDE:
+        return "the latitude is outside its range: -90000000 to 90000000 millionths of a degree";
+    case TICKLOCUST_REFUSED_LONGITUDE:
+        return "the longitude is outside its range: -180000000 to 179999999 millionths of a degree";
+    case TICKLOCUST_REFUSED_CELL:
+        return "the cell number is not below 8 x 4^level";
+    case TICKLOCUST_REFUSED_LENGTH:
+        return "a slice is not of its exact length; for borders it is too short, or there are no "
+               "cells";
+    case TICKLOCUST_REFUSED_COUNT:
+        return "the rings are above 64, or the days above 30";
+    case TICKLOCUST_REFUSED_STEP:
+        return "there is no such step: the code is above 7 or absent there, or no code joins the "
+               "two cells";
+    case TICKLOCUST_REFUSED_OUTSIDE:
+        return "the outside cell is marked";
+    case TICKLOCUST_REFUSED_CODES:
+        return "there are more than 4096 codes";
+    case TICKLOCUST_REFUSED_SHORT:
+        return "the bytes end early";
+    case TICKLOCUST_REFUSED_FORM:
+        return "a stored number is not in its form: shortest, at most five bytes, below 2^32";
+    case TICKLOCUST_REFUSED_REST:
+        return "pad bits are not zero, or bytes are left over";
+    default:
+        return "there is no such refusal";
+    }
+}
 
 /* The kinds of a reading (docs/RULES.md, 7). */
 enum ticklocust_kind { TICKLOCUST_FRESH = 0, TICKLOCUST_CARRIED = 1, TICKLOCUST_GAP = 2 };

@@ -1,20 +1,17 @@
-"""Tests of ticklocust.py: every call, every refusal with every buffer compared, every buffer."""
+"""Tests of ticklocust.py: every call, every refusal with every buffer compared, and kinds."""
 
 from __future__ import annotations
 
 import doctest
+import pickle
 import threading
 import unittest
 from array import array
+from itertools import repeat
 from typing import Any, Callable
 
 import ticklocust as t
-from ticklocust import Kind, Latitude, Longitude, Reading, Refused
-
-try:
-    import numpy
-except ImportError:
-    numpy = None
+from ticklocust import Kind, Latitude, Longitude, Reading, Refused, Summary
 
 NAN = float("nan")
 
@@ -29,7 +26,9 @@ class Calls(unittest.TestCase):
         self.assertEqual(t.cell_at(1, Latitude(22_500_000), Longitude(29_999_999)), 2)
         self.assertEqual(t.cell_at(14, Latitude(-1), Longitude(0)), 1_252_698_794)
         self.assertEqual(t.centre(0, 7), (Latitude(-30_000_000), Longitude(-45_000_000)))
-        self.assertEqual(t.step(4, 187, t.CODES.index("T")), 1211)
+        self.assertEqual((t.step(4, 187, 5), t.step(4, 187, "T")), (1211, 1211))
+        for number, letter in enumerate("tlrew"):
+            self.assertEqual(t.step(4, 0, letter), t.step(4, 0, number))
         self.assertEqual(t.code(4, 187, 1211), 5)
         self.assertEqual(t.touching(0, 0), (1, 2, 3, 4, 5, 7))
         self.assertEqual(len(t.touching(4, 187)), 12)
@@ -41,6 +40,20 @@ class Calls(unittest.TestCase):
         room = array("I", [7] * 5)
         t.border_read(b"\x04\x00\x02\x0b", room)
         self.assertEqual(list(room), [0, 13, 3, 7, 7])
+
+    def test_border_of_any_cells(self) -> None:
+        given: list[Any] = [[0, 13, 3], (0, 13, 3), iter([0, 13, 3]), array("I", [0, 13, 3])]
+        given += [array("q", [0, 13, 3]), array("H", [0, 13, 3]), array("I", [0, 13, 3]).tobytes()]
+        for cells in given:
+            self.assertEqual(bytes(t.border_write(4, cells)), b"\x04\x00\x02\x0b")
+        # Read no further than it takes to refuse.
+        for number, cells in ((5, []), (9, repeat(0)), (4, [2**40]), (7, range(0, 400, 200))):
+            with self.assertRaises(Refused) as caught:
+                t.border_write(4, cells)
+            self.assertEqual(caught.exception.number, number)
+        self.assertRaises(ValueError, t.border_write, 4, [-1])
+        for wrong in ("text", [0.0], [None], 5, array("f", [0.0])):
+            self.assertRaises(TypeError, t.border_write, 4, wrong)
 
     def test_masks(self) -> None:
         self.assertEqual(t.grow(0, 1, b"\x01"), b"\xbf")
@@ -55,7 +68,8 @@ class Calls(unittest.TestCase):
     def test_charts(self) -> None:
         temperatures, ages = array("f", [21.0] * 8), bytearray(8)
         news = array("f", [16.0, 16.5, 17.0, 17.5, 16.0, 16.0, NAN, 45.5])
-        self.assertEqual(t.day(0, 30, news, b"\x31", temperatures, ages), (3, 16.5, 17.5))
+        summary = t.day(0, 30, news, b"\x31", temperatures, ages)
+        self.assertEqual(summary, Summary(count=3, coldest=16.5, warmest=17.5))
         self.assertEqual(ages, bytes([1, 0, 0, 0, 1, 1, 1, 1]))
         self.assertEqual(t.reading(0, 0, temperatures, ages), (Kind.CARRIED, 21.0, 1))
         self.assertEqual(t.reading(0, 1, temperatures, ages), (Kind.FRESH, 16.5, 0))
@@ -146,6 +160,20 @@ class Refusals(unittest.TestCase):
             self.assertRaises(ValueError, call)
         self.assertRaises(TypeError, t.centre, 1.0, 0)
 
+    def test_a_refusal_is_a_value_error(self) -> None:
+        with self.assertRaises(ValueError) as caught:
+            t.mask_len(9)
+        self.assertTrue(str(caught.exception).startswith("refused 1: the level is above"))
+        again = pickle.loads(pickle.dumps(caught.exception))
+        self.assertEqual((type(again), again.number), (Refused, 1))
+
+    def test_codes_that_are_none(self) -> None:
+        for wrong in ("x", "", "tl", "5"):
+            with self.assertRaisesRegex(ValueError, "t, l, r, e, w, T, E, W") as caught:
+                t.step(1, 0, wrong)
+            self.assertNotIsInstance(caught.exception, Refused)
+        self.assertRaises(TypeError, t.step, 1, 0, b"t")
+
 
 class Kinds(unittest.TestCase):
     def test_latitude_and_longitude_are_kept_apart(self) -> None:
@@ -162,69 +190,6 @@ class Kinds(unittest.TestCase):
             self.assertRaises(TypeError, use, said)
         self.assertRaises(TypeError, float, said.kind)
         self.assertNotEqual(Kind.FRESH, 0)
-
-
-class Buffers(unittest.TestCase):
-    def test_any_buffer_to_read(self) -> None:
-        kinds = [bytes, bytearray, memoryview, lambda b: array("B", b), lambda b: memoryview(b)[:]]
-        for kind in kinds:
-            self.assertEqual(t.count(1, kind(b"\xff\0\0\x01")), 9)
-        data = array("f", [21.0] * 8)
-        for temperatures in (data, memoryview(data), data.tobytes(), bytearray(data.tobytes())):
-            self.assertEqual(t.reading(0, 3, temperatures, bytes(8)), (Kind.FRESH, 21.0, 0))
-
-    def test_nothing_is_copied(self) -> None:
-        data = array("f", [0.0] * 9)
-        part = memoryview(data)[1:]
-        with t._lend(t._read("part", part, t._FLOATS)) as ((pointer, length),):
-            self.assertEqual((pointer, length), (data.buffer_info()[0] + 4, 8))
-        t.day(0, 0, array("f", [16.0] * 8), b"\0", part, bytearray(8))
-        self.assertEqual(list(data), [0.0] + [16.0] * 8)
-        frame = bytearray(3)
-        t.grow(0, 1, b"\x01", memoryview(frame)[1:2])
-        self.assertEqual(frame, b"\0\xbf\0")
-
-    def test_what_is_lent_is_held_and_given_back(self) -> None:
-        mask = bytearray(1)
-        with t._lend(t._written("mask", mask)):
-            self.assertRaises(BufferError, mask.append, 1)
-        mask.append(1)
-        self.assertRaises(Refused, t.count, 0, mask)
-        mask.append(1)
-
-    def test_wrong_buffers(self) -> None:
-        same, other = bytearray(4), bytearray(4)
-        for words in ((same, same, other), (same, other, other), (other, same, same)):
-            self.assertRaises(ValueError, t.grow, 1, 1, *words)
-        self.assertRaises(ValueError, t.join, 1, same, other, memoryview(other))
-        self.assertEqual(t.join(1, same, same, other), bytes(4))
-        self.assertRaises(BufferError, t.grow, 1, 1, same, bytes(4))
-        self.assertRaises(BufferError, t.count, 1, memoryview(bytes(8))[::2])
-        self.assertRaises(TypeError, t.count, 1, "text")
-        self.assertRaises(TypeError, t.count, 1, array("I", [1]))
-        ages = bytearray(8)
-        self.assertRaises(TypeError, t.reading, 0, 0, array("d", [21.0] * 8), ages)
-        self.assertRaises(TypeError, t.reading, 0, 0, array("i", [21] * 8), ages)
-        odd = memoryview(bytearray(33))[1:].cast("f")
-        self.assertRaises(ValueError, t.reading, 0, 0, odd, ages)
-
-    @unittest.skipUnless(numpy, "numpy is not installed")
-    def test_numpy(self) -> None:
-        temperatures = numpy.full(9, 21.0, dtype=numpy.float32)
-        ages = numpy.zeros(8, dtype=numpy.uint8)
-        news = numpy.full((2, 4), 16.0, dtype=numpy.float32)
-        cloud = numpy.array([1], dtype=numpy.uint8)
-        self.assertEqual(t.day(0, 30, news, cloud, temperatures[1:], ages).count, 7)
-        self.assertEqual(temperatures.tolist(), [21.0, 21.0] + [16.0] * 7)
-        self.assertEqual(t.reading(0, 0, temperatures[1:], ages), (Kind.CARRIED, 21.0, 1))
-        self.assertRaises(TypeError, t.reading, 0, 0, temperatures[1:].astype("f8"), ages)
-        self.assertRaises(TypeError, t.reading, 0, 0, temperatures[1:].astype(">f4"), ages)
-        wide = numpy.zeros(8, dtype=numpy.uint8)
-        self.assertRaises((BufferError, ValueError), t.count, 1, wide[::2])
-        cells = numpy.zeros(4097, dtype=numpy.uint32)
-        level, front = t.border_read(b"\x04\x00\x02\x0b", cells)
-        self.assertEqual((level, list(front), list(cells[:3])), (4, [0, 13, 3], [0, 13, 3]))
-        self.assertEqual(bytes(t.border_write(4, cells[:3])), b"\x04\x00\x02\x0b")
 
 
 if __name__ == "__main__":

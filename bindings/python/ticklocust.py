@@ -1,15 +1,20 @@
 r"""Triangular cells of the globe, masks of cloud on them, and charts of sea temperature in degrees
 Celsius, where every temperature has an age: the proved library libticklocust, through ctypes.
 
-Each function makes one call of include/ticklocust.h. It returns its result or raises Refused, whose
-`number` is that of the table in docs/RULES.md, 9; a refused call leaves every buffer as it was. The
-sections of that page: positions 2, centres 3, codes 4, touching 5, masks 6, charts 7, borders 8.
+Each function makes one call of include/ticklocust.h. It returns its result or raises Refused, a
+ValueError whose `number` is that of the table in docs/RULES.md, 9; a refused call leaves every
+buffer as it was. The sections of that page: positions 2, centres 3, codes 4, touching 5, masks 6,
+charts 7, borders 8. Bounds are MAX_CELL_LEVEL and the like; mask_len and chart_len give lengths.
 
 Buffers are bytes, bytearray, memoryview, array.array or numpy arrays. They are contiguous and are
 never copied. Masks, ages and stored borders are bytes; temperatures are 32-bit floats ('f') and
 cells 32-bit unsigned integers ('I'), or the bytes of either as in a file. A buffer that a call
 writes is writable and overlaps no other buffer of the call. If none is passed for a result, the
 call makes one. Other threads run during a call; they must not change its buffers.
+
+A numpy masked array raises TypeError, even if no element is masked: a buffer carries no mask, so
+masked cells would become fresh. array.filled(float("nan")) makes plain temperatures, which are out
+of range where they were masked. Only border_write takes cells that are not a buffer, in a list.
 
     >>> cell = cell_at(1, Latitude(22_500_000), Longitude(30_000_000))
     >>> cell, centre(1, cell)
@@ -47,44 +52,60 @@ from array import array
 from contextlib import contextmanager
 from ctypes import byref, c_float, c_int32, c_size_t, c_uint32, c_void_p
 from dataclasses import dataclass
+from itertools import islice
 from pathlib import Path
-from typing import TYPE_CHECKING, Any, Iterator, NamedTuple
+from typing import TYPE_CHECKING, Any, Iterable, Iterator, NamedTuple
 
 if TYPE_CHECKING:
     from _typeshed import ReadableBuffer, WriteableBuffer
 
 __all__ = [
-    "CODES", "Kind", "Latitude", "Longitude", "Reading", "Refused", "Summary", "Within",
-    "border_read", "border_write", "cell_at", "centre", "code", "count", "day", "fill", "grow",
-    "join", "reading", "shrink", "step", "touching", "within",
-]
+    "CODES", "Kind", "Latitude", "Longitude", "MAX_BORDER_BYTES", "MAX_BORDER_CELLS",
+    "MAX_CELL_LEVEL", "MAX_CODES", "MAX_DAYS", "MAX_MASK_LEVEL", "MAX_RINGS", "Reading", "Refused",
+    "Summary", "Within", "border_read", "border_write", "cell_at", "centre", "chart_len", "code",
+    "count", "day", "fill", "grow", "join", "mask_len", "reading", "shrink", "step", "touching",
+    "within",
+]  # fmt: skip
+__version__ = "0.1.0"
 
 CODES = "tlrewTEW"
 """The letters of the codes 0 to 7; T, E and W cross the edge of an octant."""
+MAX_CELL_LEVEL = 14
+"""The highest level of cells and borders."""
+MAX_MASK_LEVEL = 8
+"""The highest level of masks and charts."""
+MAX_RINGS = 64
+"""The most rings by which a mask is grown or shrunk."""
+MAX_DAYS = 30
+"""The most days for which a temperature is carried."""
+MAX_CODES = 4096
+"""The most codes in a border."""
+MAX_BORDER_CELLS = MAX_CODES + 1
+"""The most cells in a border: a length for border_read's buffer."""
+MAX_BORDER_BYTES = 1544
+"""The most bytes in a stored border: a length for border_write's buffer."""
 
 _NO_CELL = 0xFFFFFFFF
 _TOUCHING = 12
-_MOST_CELLS = 4097
-_MOST_BYTES = 1544
 
 _SENTENCES = {
     1: "the level is above its bound: 14 for cells and borders, 8 for masks and charts",
     2: "the latitude is outside its range: -90000000 to 90000000 millionths of a degree",
     3: "the longitude is outside its range: -180000000 to 179999999 millionths of a degree",
     4: "the cell number is not below 8 x 4^level",
-    5: "a slice is not of the length that the level asks for; for borders, too short, or no cells",
-    6: "more than 64 rings, or more than 30 days",
-    7: "there is no such step: a code above 7, a code that is absent there, or two cells that no "
-    "code joins",
+    5: "a slice is not of its exact length; for borders it is too short, or there are no cells",
+    6: "the rings are above 64, or the days above 30",
+    7: "there is no such step: the code is above 7 or absent there, or no code joins the two "
+    "cells",
     8: "the outside cell is marked",
-    9: "the border has more than 4096 codes",
+    9: "there are more than 4096 codes",
     10: "the bytes end early",
     11: "a stored number is not in its form: shortest, at most five bytes, below 2^32",
     12: "pad bits are not zero, or bytes are left over",
 }
 
 
-class Refused(Exception):
+class Refused(ValueError):
     """A call was refused. `number` is that of the table in docs/RULES.md, 9: 1 to 12."""
 
     number: int
@@ -136,7 +157,8 @@ class Reading(NamedTuple):
         return f"carried {self.temperature}, {self.days} day{'' if self.days == 1 else 's'}"
 
 
-class Summary(NamedTuple):
+@dataclass(frozen=True)
+class Summary:
     """The fresh cells of a chart after a day, with temperatures in degrees Celsius. If no cell is
     fresh, count is 0 and both temperatures are 0.0."""
 
@@ -218,10 +240,20 @@ def _whole(name: str, value: int) -> int:
     return min(value, 0xFFFFFFFF)
 
 
-def _microdegrees(value: Latitude | Longitude, kind: type) -> int:
+def _microdegrees(
+    value: Latitude | Longitude, kind: type[Latitude] | type[Longitude]
+) -> int:
     if not isinstance(value, kind):
         raise TypeError(f"a {kind.__name__} is needed, not {value!r}")
     return max(-(2**31), min(operator.index(value.microdegrees), 2**31 - 1))
+
+
+def _code(code: int | str) -> int:
+    if not isinstance(code, str):
+        return _whole("code", code)
+    if len(code) != 1 or code not in CODES:
+        raise ValueError(f"code is not one of the letters {', '.join(CODES)}: {code!r}")
+    return CODES.index(code)
 
 
 class _Py_buffer(ctypes.Structure):
@@ -264,9 +296,11 @@ def _lend(*lent: _Lent) -> Iterator[list[tuple[int, int]]]:
     """The pointer and the length of each buffer, which can't be moved or resized meanwhile."""
     views: list[_Py_buffer] = []
     try:
-        for _, buffer, _, written in lent:
+        for one in lent:
+            _check_plain(one)
             view = _Py_buffer()
-            _get_buffer(buffer, byref(view), _FORMAT | _CONTIGUOUS | (_WRITABLE * written))
+            flags = _FORMAT | _CONTIGUOUS | (_WRITABLE if one.written else 0)
+            _get_buffer(one.buffer, byref(view), flags)
             views.append(view)
         for i, one in enumerate(lent):
             for j, other in enumerate(lent):
@@ -278,16 +312,33 @@ def _lend(*lent: _Lent) -> Iterator[list[tuple[int, int]]]:
             _release_buffer(byref(view))
 
 
+def _check_plain(lent: _Lent) -> None:
+    """Refuses masked arrays, by the name of their class: numpy may not be installed."""
+    # A memoryview of a masked array is one too.
+    owner = lent.buffer.obj if isinstance(lent.buffer, memoryview) else lent.buffer
+    if any(kind.__name__ == "MaskedArray" for kind in type(owner).__mro__):
+        name, value = lent.name, 'float("nan")' if lent.element == _FLOATS else "VALUE"
+        raise TypeError(
+            f"{name} is a masked array, and its mask would be ignored; make it a plain array: "
+            f"{name} = {name}.filled({value})"
+        )
+
+
 def _overlap(a: _Py_buffer, b: _Py_buffer) -> bool:
     if not (a.len and b.len):
         return False
-    return a.buf < b.buf + b.len and b.buf < a.buf + a.len
+    return bool(a.buf < b.buf + b.len and b.buf < a.buf + a.len)
+
+
+def _holds(format: str, letter: str) -> bool:
+    """Whether a buffer of this format holds such elements, or bytes."""
+    return format.lstrip("@=<") in ("B", "b", "c", letter)
 
 
 def _slice(lent: _Lent, view: _Py_buffer) -> tuple[int, int]:
     letter, size = lent.element
-    format = (view.format or b"B").decode().lstrip("@=<")
-    if format not in ("B", "b", "c", letter) or view.itemsize not in (1, size):
+    format = (view.format or b"B").decode()
+    if not _holds(format, letter) or view.itemsize not in (1, size):
         raise TypeError(f"{lent.name} has elements '{format}', not '{letter}' or bytes")
     # Bytes that end within an element count as length 0, which is refused.
     length = 0 if view.len % size else view.len // size
@@ -317,10 +368,11 @@ def centre(level: int, cell: int) -> tuple[Latitude, Longitude]:
     return Latitude(latitude.value), Longitude(longitude.value)
 
 
-def step(level: int, cell: int, code: int) -> int:
-    """The cell that a code leads to. Level 0 to 14. Refused: 1, 4, 7."""
+def step(level: int, cell: int, code: int | str) -> int:
+    """The cell that a code leads to, given by its letter or number. Level 0 to 14.
+    Refused: 1, 4, 7."""
     to = c_uint32()
-    words = _whole("level", level), _whole("cell", cell), _whole("code", code)
+    words = _whole("level", level), _whole("cell", cell), _code(code)
     _call("step", *words, byref(to))
     return to.value
 
@@ -350,21 +402,36 @@ def border_read(
     """Reads a stored border into the first places of `cells`; returns its level and these places.
     Refused: for the level 10 or 11, then 1; for the start cell 10 or 11, then 4; for the number of
     codes 10 or 11, then 9; then 10, 12, 5, 7."""
-    cells = array("I", bytes(4 * _MOST_CELLS)) if cells is None else cells
+    cells = array("I", bytes(4 * MAX_BORDER_CELLS)) if cells is None else cells
     level, count = c_uint32(), c_uint32()
     with _lend(_read("stored", stored), _written("cells", cells, _WORDS)) as (a, b):
         _call("border_read", *a, *b, byref(level), byref(count))
     return level.value, memoryview(cells).cast("B").cast("I")[: count.value]
 
 
+def _cells(cells: Any) -> Any:
+    """A buffer of cells as it is; the numbers of any other iterable in a buffer of their own."""
+    _check_plain(_read("cells", cells, _WORDS))
+    try:
+        if _holds(memoryview(cells).format, "I"):
+            return cells
+    except TypeError:
+        pass  # It is no buffer.
+    # One cell more than a border can have is enough to be refused by 9.
+    return array("I", [_whole("a cell", cell) for cell in islice(cells, MAX_BORDER_CELLS + 1)])
+
+
 def border_write(
-    level: int, cells: ReadableBuffer, stored: WriteableBuffer | None = None
+    level: int,
+    cells: ReadableBuffer | Iterable[int],
+    stored: WriteableBuffer | None = None,
 ) -> memoryview:
     """Writes a border in its stored form into the first bytes of `stored`; returns these bytes.
-    Level 0 to 14. Refused: 1, 5 (no cells), 9, 4, 7, 5 (`stored` is too short)."""
-    stored = bytearray(_MOST_BYTES) if stored is None else stored
+    `cells` is a buffer, or any iterable of numbers. Level 0 to 14.
+    Refused: 1, 5 (no cells), 9, 4, 7, 5 (`stored` is too short)."""
+    stored = bytearray(MAX_BORDER_BYTES) if stored is None else stored
     length = c_uint32()
-    with _lend(_read("cells", cells, _WORDS), _written("stored", stored)) as (a, b):
+    with _lend(_read("cells", _cells(cells), _WORDS), _written("stored", stored)) as (a, b):
         _call("border_write", _whole("level", level), *a, *b, byref(length))
     return memoryview(stored).cast("B")[: length.value]
 
@@ -372,12 +439,25 @@ def border_write(
 # Masks.
 
 
+def mask_len(level: int) -> int:
+    """The number of bytes in a mask, 4^level. Level 0 to 8. Refused: 1."""
+    level = _whole("level", level)
+    if level > MAX_MASK_LEVEL:
+        raise Refused(1)
+    return 1 << 2 * level
+
+
 def _like(mask: ReadableBuffer) -> bytearray:
     return bytearray(memoryview(mask).nbytes)
 
 
 def _rings(
-    name: str, level: int, rings: int, mask: ReadableBuffer, out: Any, work: Any
+    name: str,
+    level: int,
+    rings: int,
+    mask: ReadableBuffer,
+    out: WriteableBuffer | None,
+    work: WriteableBuffer | None,
 ) -> WriteableBuffer:
     out = _like(mask) if out is None else out
     work = _like(mask) if work is None else work
@@ -448,6 +528,11 @@ def fill(
 
 
 # Charts.
+
+
+def chart_len(level: int) -> int:
+    """The number of temperatures in a chart, and of ages, 8 x 4^level. Level 0 to 8. Refused: 1."""
+    return 8 * mask_len(level)
 
 
 def reading(

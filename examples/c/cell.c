@@ -14,7 +14,9 @@ int main(void) {
         printf("cell %u, centre %d %d\n", cell, latitude.microdegrees, longitude.microdegrees);
 
     latitude.microdegrees = 90000001;
-    printf("refused %u\n", ticklocust_cell_at_position(1, latitude, longitude, &cell));
-    printf("refused %u\n", ticklocust_centre_position(15, cell, &latitude, &longitude));
+    uint32_t number = ticklocust_cell_at_position(1, latitude, longitude, &cell);
+    printf("refused %u: %s\n", number, ticklocust_refusal_text(number));
+    number = ticklocust_centre_position(1, 32, &latitude, &longitude);
+    printf("refused %u: %s\n", number, ticklocust_refusal_text(number));
     return refused != TICKLOCUST_ACCEPTED;
 }

@@ -1,5 +1,5 @@
-//! The stored border (document 01, "Stored border", and the order of its refusals in "Refused
-//! calls"). The codes are taken as one list of bits.
+//! The stored border (docs/RULES.md, 8; the order of its refusals is in section 9). The codes are
+//! taken as one list of bits.
 
 use crate::cells::{check_cell, check_level, MAX_CELL_LEVEL};
 use crate::refusals::{refuse, Answer, ENDS_EARLY, LEFT_OVER, LENGTH, NUMBER_FORM, TOO_MANY_CODES};
@@ -78,6 +78,11 @@ pub fn read(bytes: &[u8], room: usize) -> Answer<(u32, Vec<u32>)> {
     Ok((level, cells))
 }
 
+/// The code from each cell to the next.
+pub fn codes_between(level: u32, cells: &[u32]) -> impl Iterator<Item = Answer<u32>> + '_ {
+    cells.windows(2).map(move |pair| code(level, pair[0], pair[1]))
+}
+
 /// The writer: the bytes of a border, for a slice with `room` places.
 pub fn write(level: u32, cells: &[u32], room: usize) -> Answer<Vec<u8>> {
     check_level(level, MAX_CELL_LEVEL)?;
@@ -86,8 +91,7 @@ pub fn write(level: u32, cells: &[u32], room: usize) -> Answer<Vec<u8>> {
     for &cell in cells {
         check_cell(level, cell)?;
     }
-    let pairs = cells.windows(2).map(|pair| code(level, pair[0], pair[1]));
-    let codes = pairs.collect::<Answer<Vec<u32>>>()?;
+    let codes = codes_between(level, cells).collect::<Answer<Vec<u32>>>()?;
     let mut bytes = number_bytes(level);
     bytes.extend(number_bytes(cells[0]));
     bytes.extend(number_bytes(codes.len() as u32));

@@ -1,4 +1,4 @@
-//! Cells and their numbers (document 01, "Cells and their numbers").
+//! Cells and their numbers (docs/RULES.md, 1).
 
 use crate::refusals::{refuse, Answer, CELL, LEVEL};
 
@@ -7,7 +7,7 @@ pub const MAX_CELL_LEVEL: u32 = 14;
 /// The highest level of masks and charts.
 pub const MAX_MASK_LEVEL: u32 = 8;
 
-/// A triangle stands on its base in the octant's frame (up) or on its tip (down).
+/// An up cell has its corner towards the pole, a down cell towards the equator.
 #[derive(Clone, Copy, PartialEq, Eq, Debug)]
 pub enum Kind {
     Up,
@@ -15,8 +15,18 @@ pub enum Kind {
 }
 use Kind::{Down, Up};
 
-/// Where a cell lies: its octant, its kind, its row from the equator (the paper's a) and its
-/// column from the west edge (the paper's b).
+impl Kind {
+    /// The s of a centre: how many thirds of a row and of a column it lies inside its cell.
+    pub fn thirds(self) -> i64 {
+        match self {
+            Up => 1,
+            Down => 2,
+        }
+    }
+}
+
+/// Where a cell lies: its octant, its kind, its row a from the equator and its column b from
+/// the west edge.
 #[derive(Clone, Copy, PartialEq, Eq, Debug)]
 pub struct Place {
     pub octant: i64,
@@ -35,7 +45,7 @@ pub fn cells_of(level: u32) -> u64 {
     8 * 4u64.pow(level)
 }
 
-/// The four children of a cell, in the order of their digits: the paper's table.
+/// The four children of a cell, in the order of their digits.
 pub fn children(parent: Place) -> [Place; 4] {
     let (a, b) = (parent.row, parent.col);
     let child = |kind, row, col| Place { kind, row, col, ..parent };
@@ -102,6 +112,22 @@ fn parent_of(child: Place) -> (Place, u32) {
         }
     }
     unreachable!("every cell below level 0 has a parent")
+}
+
+/// The place of a number, as a call that tests it.
+pub fn place(level: u32, number: u32) -> Answer<Place> {
+    check_level(level, MAX_CELL_LEVEL)?;
+    check_cell(level, number)?;
+    Ok(place_of(level, number))
+}
+
+/// The number of a place, as a call that tests it.
+pub fn number(level: u32, octant: u32, kind: Kind, row: u32, col: u32) -> Answer<u32> {
+    check_level(level, MAX_CELL_LEVEL)?;
+    let (octant, row, col) = (i64::from(octant), i64::from(row), i64::from(col));
+    let place = Place { octant, kind, row, col };
+    refuse(CELL, octant > 7 || !exists(level, place))?;
+    Ok(number_of(level, place))
 }
 
 /// Refusal 1, with the bound of cells or of masks.

@@ -1,4 +1,4 @@
-//! Charts and ages (document 01, "Charts and ages").
+//! Charts and ages (docs/RULES.md, 7).
 
 use crate::cells::{cells_of, check_cell, check_level, MAX_MASK_LEVEL};
 use crate::masks::{marks, mask_bytes};

@@ -1,4 +1,4 @@
-//! Filling by reach from outside (document 01, "Masks", last item).
+//! Filling by reach from outside (docs/RULES.md, 6.2).
 
 use std::collections::VecDeque;
 

@@ -1,10 +1,11 @@
-//! Document 01 written a second time, slowly and plainly, to hold the proved library against.
-//! One module for each section of the paper. Every call gives its answer or the number of its
+//! The rules of docs/RULES.md as a second program, slow and plain, to compare the proved library
+//! with. One module for each section. Every call gives its answer or the number of its
 //! refusal; what it writes to slices it gives as new lists.
 
 pub mod borders;
 pub mod cells;
 pub mod charts;
+pub mod digits;
 pub mod fills;
 pub mod masks;
 pub mod positions;

@@ -1,9 +1,10 @@
-//! Compares the proved library, through its C interface, with the model of document 01.
+//! Compares the proved library, through its C interface, with the model of docs/RULES.md.
 //!
 //!     compare [long] [seed N] [only WORDS]
 //!
 //! One round with the given or the usual seed; with `long`, rounds with new seeds until stopped;
-//! with `only`, the tasks whose names have these words. Ends with status 1 at the first difference.
+//! with `only`, the tasks whose names have these words; that none has is an error. Ends with status
+//! 1 at the first difference.
 
 mod compare;
 mod library;
@@ -33,7 +34,7 @@ fn main() {
     }
     let mut tasks = compare::tasks(folder.as_deref());
     if let Some(words) = &asked.only {
-        tasks.retain(|task| task.name.contains(words.as_str()));
+        tasks = named(tasks, words);
     }
     let whole = asked.only.is_none();
     let mut seed = asked.seed.unwrap_or_else(|| if asked.long { new_seed() } else { USUAL_SEED });
@@ -75,6 +76,17 @@ fn look_for_programs(folder: &str) {
             std::process::exit(2);
         }
     }
+}
+
+/// The tasks whose names have these words. If there are none, nothing would be compared.
+fn named(mut tasks: Vec<compare::Task>, words: &str) -> Vec<compare::Task> {
+    let names: Vec<String> = tasks.iter().map(|task| format!("  {}", task.name)).collect();
+    tasks.retain(|task| task.name.contains(words));
+    if tasks.is_empty() {
+        eprintln!("no task's name has '{words}'. The tasks:\n{}", names.join("\n"));
+        std::process::exit(2);
+    }
+    tasks
 }
 
 fn usage() -> ! {

@@ -1,4 +1,4 @@
-//! Masks that grow, shrink and join, their count, and within (document 01, "Masks").
+//! Masks that grow, shrink and join, their count, and within (docs/RULES.md, 6).
 
 use std::collections::VecDeque;
 

@@ -1,4 +1,4 @@
-//! Position to cell and cell to centre (document 01, the two sections of these names).
+//! Position to cell and cell to centre (docs/RULES.md, 2 and 3).
 //! Fractions are kept whole: 128 bits hold every product here.
 
 use crate::cells::{
@@ -95,10 +95,7 @@ pub fn centre(level: u32, cell: u32) -> Answer<(i32, i32)> {
     let place = place_of(level, cell);
     let n = i128::from(rows(level));
     let (a, b) = (i128::from(place.row), i128::from(place.col));
-    let s = match place.kind {
-        Kind::Up => 1,
-        Kind::Down => 2,
-    };
+    let s = i128::from(place.kind.thirds());
     let p = Fraction::new(Q * (3 * a + s), 3 * n).whole_part();
     let m = Fraction::new((3 * b + s) * Q * Q, 3 * n * (Q - p)).whole_part();
     let latitude = if place.octant < 4 { p } else { -p };

@@ -1,4 +1,4 @@
-//! What the two programs print (document 01, "Two programs").
+//! What the two programs print (docs/RULES.md, 10).
 
 use crate::borders::{self, MAX_CODES};
 use crate::masks;

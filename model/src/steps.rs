@@ -1,4 +1,4 @@
-//! Steps and codes (document 01, "Steps and codes"). Codes 0 to 7 are t, l, r, e, w, T, E, W.
+//! Steps and codes (docs/RULES.md, 4). Codes 0 to 7 are t, l, r, e, w, T, E, W.
 
 use crate::cells::{
     check_cell, check_level, exists, number_of, place_of, rows, Kind, Place, MAX_CELL_LEVEL,

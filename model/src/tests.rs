@@ -1,5 +1,5 @@
-//! Tests of the model: the paper's worked cells, the published examples, the refused calls, and
-//! facts that hold of every cell.
+//! Tests of the model: the worked examples of docs/RULES.md, the published examples, the refused
+//! calls, and facts that hold of every cell.
 
 mod laws;
 mod refused;

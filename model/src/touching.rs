@@ -1,10 +1,10 @@
-//! Corners and touching (document 01, "Corners and touching").
+//! Corners and touching (docs/RULES.md, 5).
 
 use std::collections::{BTreeSet, HashMap};
 use std::sync::OnceLock;
 
 use crate::cells::{
-    cells_of, check_cell, check_level, exists, number_of, place_of, rows, Kind, Place,
+    cells_of, check_cell, check_level, exists, number_of, place, place_of, rows, Kind, Place,
     MAX_CELL_LEVEL, MAX_MASK_LEVEL,
 };
 use crate::refusals::{refuse, Answer, LENGTH};
@@ -65,6 +65,13 @@ pub fn touching_by_points(level: u32, cell: u32) -> Vec<u32> {
     let points = corners(level, place_of(level, cell));
     let cells: BTreeSet<u32> = points.iter().flat_map(|&p| cells_at(level, p)).collect();
     cells.into_iter().filter(|&c| c != cell).collect()
+}
+
+/// Whether two cells touch.
+pub fn touch(level: u32, a: u32, b: u32) -> Answer<bool> {
+    let (here, there) = (place(level, a)?, place(level, b)?);
+    let points = corners(level, there);
+    Ok(a != b && corners(level, here).iter().any(|point| points.contains(point)))
 }
 
 /// What masks need of one level, worked out once: for each cell the cells that touch it and its

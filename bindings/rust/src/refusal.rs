@@ -31,20 +31,20 @@ pub enum Refusal {
     Longitude = 3,
     /// 4: the cell number is not below 8 × 4^level.
     Cell = 4,
-    /// 5: a slice is not of the exact length; for borders, too short, or no cells.
+    /// 5: a slice is not of its exact length; for borders it is too short, or there are no cells.
     Length = 5,
-    /// 6: rings above 64, or days above 30.
+    /// 6: the rings are above 64, or the days above 30.
     Count = 6,
-    /// 7: no such step: code above 7, code that the cell doesn't have, or two cells that no code
-    /// joins.
+    /// 7: there is no such step: the code is above 7 or absent there, or no code joins the two
+    /// cells.
     Step = 7,
     /// 8: the outside cell is marked.
     Outside = 8,
-    /// 9: more than 4,096 codes.
+    /// 9: there are more than 4,096 codes.
     Codes = 9,
     /// 10: the bytes end early.
     Short = 10,
-    /// 11: a stored number is not in its stored form.
+    /// 11: a stored number is not in its form.
     Form = 11,
     /// 12: pad bits are not zero, or bytes are left over.
     Rest = 12,
@@ -101,16 +101,16 @@ impl fmt::Display for Refusal {
             }
             Refusal::Cell => "the cell number is not below 8 x 4^level",
             Refusal::Length => {
-                "a slice is not of the length that the level asks for; \
-                 for borders, too short, or no cells"
+                "a slice is not of its exact length; for borders it is too short, \
+                 or there are no cells"
             }
-            Refusal::Count => "more than 64 rings, or more than 30 days",
+            Refusal::Count => "the rings are above 64, or the days above 30",
             Refusal::Step => {
-                "there is no such step: a code above 7, a code that is absent there, \
-                 or two cells that no code joins"
+                "there is no such step: the code is above 7 or absent there, \
+                 or no code joins the two cells"
             }
             Refusal::Outside => "the outside cell is marked",
-            Refusal::Codes => "the border has more than 4096 codes",
+            Refusal::Codes => "there are more than 4096 codes",
             Refusal::Short => "the bytes end early",
             Refusal::Form => {
                 "a stored number is not in its form: shortest, at most five bytes, below 2^32"

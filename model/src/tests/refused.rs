@@ -80,7 +80,7 @@ fn border_numbers() {
 
 #[test]
 fn border_tails() {
-    // Level 4 from cell 0 by e and l, as the paper's example has it.
+    // Level 4 from cell 0 by e and l, as the example of docs/RULES.md, 8.
     let read = |bytes: &[u8], room| borders::read(bytes, room).map(|(_, cells)| cells.len());
     assert_eq!(read(&[4, 0, 2, 0x0B], 3), Ok(3));
     assert_eq!(read(&[4, 0, 2, 0x0B], 2), Err(5));

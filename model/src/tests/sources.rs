@@ -2,7 +2,8 @@
 
 use super::address;
 use crate::borders;
-use crate::cells::{cells_of, place_of, rows, Kind};
+use crate::cells::{cells_of, place_of, rows};
+use crate::digits;
 use crate::positions::cell_at;
 use crate::steps::{direct, step};
 use crate::touching::Level;
@@ -77,11 +78,11 @@ fn the_shore_lies_in_the_lake_or_touches_it() {
 
 #[test]
 fn centroids_of_source_003() {
-    // X and Y in the source's units, with s as in the paper's centre.
+    // X and Y in the source's units, with s as in a cell's centre.
     for (cell, x, y) in [("03023", 23, 11), ("01003", 17, 31)] {
         let (level, number) = address(cell);
         let place = place_of(level, number);
-        let s = if place.kind == Kind::Up { 1 } else { 2 };
+        let s = place.kind.thirds();
         let (row, col) = (3 * place.row + s, 3 * place.col + s);
         assert_eq!((row, 2 * col + row), (y, 3 * x));
     }
@@ -92,48 +93,13 @@ fn a_block_in_troy() {
     assert_eq!(cell_at(13, 42_730_000, -73_690_000), Ok(address("30223022113013").1));
 }
 
-/// A rule on the digits: the last digit changes by the table, and carries to the left until a
-/// digit stops it. None when no digit stops it.
-fn by_digits(level: u32, cell: u32, table: [(u32, bool); 4]) -> Option<u32> {
-    let mut result = cell;
-    for weight in (0..level).map(|i| 4u32.pow(i)) {
-        let digit = cell / weight % 4;
-        let (to, stops) = table[digit as usize];
-        result = result - digit * weight + to * weight;
-        if stops {
-            return Some(result);
-        }
-    }
-    None
-}
-
 #[test]
 fn the_digit_rules() {
-    let top = [(1, true), (0, true), (2, false), (3, false)];
-    let left = [(2, true), (3, false), (1, false), (0, true)];
-    let right = [(3, true), (2, false), (0, true), (1, false)];
     for level in 0..=5 {
         for cell in 0..cells_of(level) as u32 {
-            for (code, table) in [(0, top), (1, left), (2, right)] {
-                assert_eq!(step(level, cell, code).ok(), by_digits(level, cell, table));
-            }
-            // Over an edge each digit is exchanged and the octant changes.
-            let octant = cell / 4u32.pow(level);
-            let exchanged = |from: u32, to: u32| {
-                let digits = (0..level).map(|i| (cell / 4u32.pow(i) % 4, 4u32.pow(i)));
-                digits.map(|(d, weight)| if d == from { to } else { d } * weight).sum::<u32>()
-            };
-            let beside = |turn: u32| (octant / 4 * 4 + (octant + turn) % 4) * 4u32.pow(level);
-            let whole = 4u32.pow(level);
-            let over = [
-                (5, Some((octant + 4) % 8 * whole + cell % whole)),
-                (6, Some(beside(1) + exchanged(3, 2))),
-                (7, Some(beside(3) + exchanged(2, 3))),
-            ];
-            for (code, to) in over {
-                let inside = step(level, cell, [0, 2, 1][code as usize - 5]).is_ok();
-                let to = to.filter(|_| !inside);
-                assert_eq!(step(level, cell, code).ok(), to, "{level} {cell} {code}");
+            for code in digits::CODES {
+                let to = step(level, cell, code).ok();
+                assert_eq!(to, digits::step(level, cell, code), "{level} {cell} {code}");
             }
         }
     }

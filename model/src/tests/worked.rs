@@ -1,4 +1,4 @@
-//! Document 01, "Cells worked out" and "Two programs".
+//! The worked examples of docs/RULES.md, 11, and the two programs of section 10.
 
 use super::address;
 use crate::borders;
