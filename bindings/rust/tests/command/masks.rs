@@ -165,5 +165,5 @@ fn refused_borders() {
     }
     folder.put("text", ("level 4\n".to_string() + &"0\n".repeat(4098)).as_bytes());
     let sentence = folder.refused("border write text out", 9);
-    assert_eq!(sentence, "the border has more than 4096 codes (line 4099)");
+    assert_eq!(sentence, "there are more than 4096 codes (line 4099)");
 }
