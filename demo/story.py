@@ -71,8 +71,8 @@ def false(said: Reading, true: float) -> bool:
 
 
 BEFORE = f"""\
-A month at 90 W. The data are synthetic: a sea, a cloud, a satellite's passes. The charts are not:
-they are kept by the library's calls, at level {LEVEL}, with {CELLS:,} cells.
+A month at 90 W. The sea, the cloud and the satellite's passes are synthetic data. The charts are
+computed from them by the library's calls, at level {LEVEL}, with {CELLS:,} cells.
 
 14 March: a warm patch of {PATCH} °C is seen on both sides of the meridian 90 W. The next day it is
 gone, the sea is {SEA} °C everywhere, and a bank of cloud lies west of 90 W for the rest of the month.
