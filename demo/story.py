@@ -88,7 +88,7 @@ itself, and with one grown by {RINGS} rings by Ticklocust.
 
 def main(picture: str) -> None:
     charts = {name: Chart(way.grow) for name, way in WAYS.items()}
-    lies = dict.fromkeys(charts, 0)
+    false_days = dict.fromkeys(charts, 0)
     print(BEFORE)
     print(row("", list(charts)), end="\n\n")
     for day in DAYS:
@@ -97,11 +97,11 @@ def main(picture: str) -> None:
         for name, chart in charts.items():
             chart.take(news, mask)
             reading = chart.says(POSITION)
-            lies[name] += false(reading, true)
+            false_days[name] += false(reading, true)
             said.append(words(reading) + ("  (false)" if false(reading, true) else ""))
         print(row(date_name(day), said))
     print(f"\nDays on which {PATCH} °C was called fresh while the sea was {SEA} °C:")
-    for name, count in lies.items():
+    for name, count in false_days.items():
         print(f"  {name:24}{count:2} of {len(DAYS) - 1}")
     with open(picture, "w", encoding="utf-8", newline="\n") as file:
         file.write(draw({name: panel(name, charts[name]) for name in charts}, cloud(TODAY)))

@@ -6,8 +6,8 @@ mod crashes;
 mod damage;
 mod days;
 mod examples;
+mod false_charts;
 mod files;
-mod lies;
 mod masks;
 mod places;
 
