@@ -76,9 +76,9 @@ computed from them by the library's calls, at level {LEVEL}, with {CELLS:,} cell
 
 14 March: a warm patch of {PATCH} °C is seen on both sides of the meridian 90 W. The next day it is
 gone, the sea is {SEA} °C everywhere, and a bank of cloud lies west of 90 W for the rest of the month.
-Its edge is the meridian. Its thin edge reaches two cells past the mask on every side. There the
-satellite sees no sea, and the provider has filled the passes with {PATCH} °C, the value of last
-month's patch.
+The cloud mask ends at the meridian, but the thin edge of the cloud reaches two cells past the mask
+on every side. There the satellite sees no sea, and the provider has filled the passes with {PATCH} °C,
+the value of last month's patch.
 
 What the chart says at 27.6 S, 89.7 W, just east of 90 W (temperatures are carried for at most
 {LIMIT} days): with a cloud mask that is not grown, with one grown by {RINGS} rings in each octant by
