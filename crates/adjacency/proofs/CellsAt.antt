@@ -19,7 +19,7 @@ use Rattle.corner.proofs.Common.{three, among-index, index-among, samePoint-ref
 use Rattle.adjacency.specs.declared.Side.{Side}
 use Rattle.adjacency.specs.declared.Cube.{Cube}
 use Rattle.adjacency.specs.Touch.{Tip, cellsAt}
-use Rattle.adjacency.specs.inside.Cube.{sideOf, sum, cubeOf, placeOfCube}
+use Rattle.adjacency.specs.Cube.{sideOf, sum, cubeOf, placeOfCube}
 use Rattle.adjacency.proofs.Sides.{end, size-end}
 use Rattle.adjacency.proofs.Cubes.{room, room-small, sum-cube, place-cube, Spanned, cube-occurs, cube-place}
 use Rattle.adjacency.proofs.Vertices.{vertex, IsVertex, corner-vertex, vertex-corner}

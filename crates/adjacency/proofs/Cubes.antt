@@ -12,7 +12,7 @@ use Rattle.corner.specs.Corner.{equatorial}
 use Rattle.corner.proofs.Octants.{octant-cases}
 use Rattle.adjacency.specs.declared.Side.{Side}
 use Rattle.adjacency.specs.declared.Cube.{Cube}
-use Rattle.adjacency.specs.inside.Cube.{sideOf, sum, leftOver, cubeOf, northernOctant, column, placeIn, placeOfCube, equatorialSides}
+use Rattle.adjacency.specs.Cube.{sideOf, sum, leftOver, cubeOf, northernOctant, column, placeIn, placeOfCube, equatorialSides}
 
 -- N less the bases: 1 for up, 2 for down
 unfoldable pub room : Triangle → ℕ

@@ -16,7 +16,7 @@ use Rattle.corner.specs.Corner.{Point, norm, corners, coordinate}
 use Rattle.corner.proofs.Octants.{octant-cases}
 use Rattle.adjacency.specs.declared.Side.{Side}
 use Rattle.adjacency.specs.Touch.{Tip, CornerCell, touching, cellsAt}
-use Rattle.adjacency.specs.inside.Cube.{sum, leftOver, cubeOf, placeOfCube, moved, least, most, touchingWay, equatorialSides, sideOf}
+use Rattle.adjacency.specs.Cube.{sum, leftOver, cubeOf, placeOfCube, moved, least, most, touchingWay, equatorialSides, sideOf}
 use Rattle.adjacency.proofs.Sides.{WayBetween, common-end}
 use Rattle.adjacency.proofs.Cubes.{room, room-small, place-cube}
 use Rattle.adjacency.proofs.Vertices.{vertex, corner-vertex, vertex-corner}

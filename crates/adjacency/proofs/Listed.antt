@@ -12,7 +12,7 @@ use Rattle.cell.proofs.Laws.{place-occurs, number-below, place-number, number-p
 use Rattle.corner.specs.Corner.{touches}
 use Rattle.adjacency.specs.declared.Cube.{Cube}
 use Rattle.adjacency.specs.Touch.{touching}
-use Rattle.adjacency.specs.inside.Cube.{sum, cubeOf, placeOfCube, movedCube, touchingWay, cellAlong}
+use Rattle.adjacency.specs.Cube.{sum, cubeOf, placeOfCube, movedCube, touchingWay, cellAlong}
 use Rattle.adjacency.proofs.Cubes.{room-small, cube-occurs, cube-place}
 use Rattle.adjacency.proofs.Ways.{Lands, way-lands, lands-way, ways-told, room-is}
 use Rattle.adjacency.proofs.Counts.{passes, all-ways, passes-below, passes-same}

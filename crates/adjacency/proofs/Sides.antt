@@ -7,7 +7,7 @@ use lib.IntN.{ℤ, pos, natAbs, pos-ne-negsuc}
 use Rattle.corner.specs.Corner.{minus}
 use Rattle.corner.proofs.Laws.{size-minus}
 use Rattle.adjacency.specs.declared.Side.{Side}
-use Rattle.adjacency.specs.inside.Cube.{sideOf, inward, moved, least, most, taken}
+use Rattle.adjacency.specs.Cube.{sideOf, inward, moved, least, most, taken}
 
 -- the end of a side that lies u beyond its base
 abbrev pub end : Side → ℕ → ℤ

@@ -12,7 +12,7 @@ use Rattle.corner.specs.Corner.{Point, minus, equatorial, polar, pointIn, corne
 use Rattle.corner.proofs.Common.{three, index-cases}
 use Rattle.adjacency.specs.declared.Side.{Side}
 use Rattle.adjacency.specs.declared.Cube.{Cube}
-use Rattle.adjacency.specs.inside.Cube.{sideOf, leftOver, cubeOf, equatorialSides}
+use Rattle.adjacency.specs.Cube.{sideOf, leftOver, cubeOf, equatorialSides}
 use Rattle.adjacency.proofs.Sides.{end}
 use Rattle.adjacency.proofs.Cubes.{room}
 

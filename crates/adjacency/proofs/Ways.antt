@@ -14,7 +14,7 @@ use Rattle.corner.specs.Corner.{corners, common}
 use Rattle.corner.proofs.Common.{three, shared-common, common-meeting, same-coordinates}
 use Rattle.adjacency.specs.declared.Side.{Side}
 use Rattle.adjacency.specs.declared.Cube.{Cube}
-use Rattle.adjacency.specs.inside.Cube.{sideOf, sum, inward, moved, movedCube, least, most, taken, sumsFit, touchingWay, cubeOf, placeOfCube, cellAlong}
+use Rattle.adjacency.specs.Cube.{sideOf, sum, inward, moved, movedCube, least, most, taken, sumsFit, touchingWay, cubeOf, placeOfCube, cellAlong}
 use Rattle.adjacency.proofs.Sides.{WayBetween, common-end, SharedEnd, along, base-moved}
 use Rattle.adjacency.proofs.Cubes.{room, room-small, sum-cube, place-cube, Spanned, cube-occurs, cube-place}
 use Rattle.adjacency.proofs.Vertices.{vertex, IsVertex, corner-vertex, vertex-corner}

@@ -1,2 +1,2 @@
 pub mod Touch
-pub mod inside
+pub mod Cube

@@ -1,4 +1,3 @@
-mod Ranked
 mod Steps
 mod Twelve
 mod Found

@@ -18,7 +18,7 @@ use Rattle.corner.specs.Corner.{quarters, equatorial}
 use Rattle.adjacency.specs.declared.Side.{Side}
 use Rattle.adjacency.specs.declared.Cube.{Cube}
 use Rattle.corner.proofs.Octants.{octant-cases}
-use Rattle.adjacency.specs.inside.Cube.{sideOf, sum, leftOver, equatorialSides, cubeOf, inward, moved, movedCube, least, most, taken, sumsFit, touchingWay, placeOfCube, cellAlong}
+use Rattle.adjacency.specs.Cube.{sideOf, sum, leftOver, equatorialSides, cubeOf, inward, moved, movedCube, least, most, taken, sumsFit, touchingWay, placeOfCube, cellAlong}
 use Rattle.touch.specs.inside.Inner.{isInner, innerWays, innerWay, other, stepped}
 use Rattle.adjacency.proofs.Cubes.{room, room-small, span-is, sum-cube, place-cube, row-of, col-of}
 use Rattle.touch.proofs.Steps.{all, all-at, five}

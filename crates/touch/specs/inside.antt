@@ -1,3 +1,2 @@
 -- What private functions claim.
-pub mod Order
 pub mod Inner

@@ -5,9 +5,9 @@ ghost use Prim.Native.Nat.{ℕ, _*_, _/_, _%_, _^_, _<_, _≤_};
 ghost use lib.ListN.{length, getD};
 ghost use Rattle.cell.specs.Cell.{Occurs, placeOf, maxLevel};
 ghost use Rattle.touch.specs.inside.Inner.{isInner, innerWay, innerStep, other, stepped, innerCell};
-use crate::cube;
 use cell::CellNumber;
 use cell::Kind;
+use cell::NumberAnswer;
 use cell::Place;
 
 // The steps of an up cell's ways, the first lowest: on the axis of the row and on that of the column two bits each, 1 for none; and a bit where the kind
@@ -86,7 +86,10 @@ fn cell_at(level: u32, place: Place, i: usize) -> CellNumber
     requires { ⌜ (level ≤ maxLevel) × Occurs level (placeOf place) × (isInner level (placeOf place .1) ≡ true) × (i < 12) ⌝ }
     ensures { λ n. ⌜ n ≡ innerCell level place i ⌝ }
 {
-    cube::number_at(level, place_at(place, i))
+    match cell::number_of(level, place_at(place, i)) {
+        NumberAnswer::Number(n) => n,
+        NumberAnswer::Refused(_) => 0,
+    }
 }
 
 // Fills a slice with the twelve cells that touch a cell away from its octant's edges.

@@ -1,2 +1,0 @@
--- What the proofs go by.
-pub mod Cube
