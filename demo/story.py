@@ -71,14 +71,14 @@ def false(said: Reading, true: float) -> bool:
 
 
 BEFORE = f"""\
-A month at 90 W. The data are synthetic: a sea, a cloud, a satellite's passes. The charts are not:
-they are kept by the library's calls, at level {LEVEL}, with {CELLS:,} cells.
+A month at 90 W. The sea, the cloud and the satellite's passes are synthetic data. The charts are
+computed from them by the library's calls, at level {LEVEL}, with {CELLS:,} cells.
 
 14 March: a warm patch of {PATCH} °C is seen on both sides of the meridian 90 W. The next day it is
 gone, the sea is {SEA} °C everywhere, and a bank of cloud lies west of 90 W for the rest of the month.
-Its edge is the meridian. Its thin edge reaches two cells past the mask on every side. There the
-satellite sees no sea, and the provider has filled the passes with {PATCH} °C, the value of last
-month's patch.
+The cloud mask ends at the meridian, but the thin edge of the cloud reaches two cells past the mask
+on every side. There the satellite sees no sea, and the provider has filled the passes with {PATCH} °C,
+the value of last month's patch.
 
 What the chart says at 27.6 S, 89.7 W, just east of 90 W (temperatures are carried for at most
 {LIMIT} days): with a cloud mask that is not grown, with one grown by {RINGS} rings in each octant by
@@ -88,7 +88,7 @@ itself, and with one grown by {RINGS} rings by Ticklocust.
 
 def main(picture: str) -> None:
     charts = {name: Chart(way.grow) for name, way in WAYS.items()}
-    lies = dict.fromkeys(charts, 0)
+    false_days = dict.fromkeys(charts, 0)
     print(BEFORE)
     print(row("", list(charts)), end="\n\n")
     for day in DAYS:
@@ -97,11 +97,11 @@ def main(picture: str) -> None:
         for name, chart in charts.items():
             chart.take(news, mask)
             reading = chart.says(POSITION)
-            lies[name] += false(reading, true)
+            false_days[name] += false(reading, true)
             said.append(words(reading) + ("  (false)" if false(reading, true) else ""))
         print(row(date_name(day), said))
     print(f"\nDays on which {PATCH} °C was called fresh while the sea was {SEA} °C:")
-    for name, count in lies.items():
+    for name, count in false_days.items():
         print(f"  {name:24}{count:2} of {len(DAYS) - 1}")
     with open(picture, "w", encoding="utf-8", newline="\n") as file:
         file.write(draw({name: panel(name, charts[name]) for name in charts}, cloud(TODAY)))

@@ -54,7 +54,7 @@ from ctypes import byref, c_float, c_int32, c_size_t, c_uint32, c_void_p
 from dataclasses import dataclass
 from itertools import islice
 from pathlib import Path
-from typing import TYPE_CHECKING, Any, Iterable, Iterator, NamedTuple
+from typing import TYPE_CHECKING, Any, Iterable, Iterator, NamedTuple, TypeVar, overload
 
 if TYPE_CHECKING:
     from _typeshed import ReadableBuffer, WriteableBuffer
@@ -438,6 +438,9 @@ def border_write(
 
 # Masks.
 
+_Out = TypeVar("_Out", bound="WriteableBuffer")
+"""The type of a buffer for the result; if none is passed, the result is a bytearray."""
+
 
 def mask_len(level: int) -> int:
     """The number of bytes in a mask, 4^level. Level 0 to 8. Refused: 1."""
@@ -466,6 +469,18 @@ def _rings(
     return out
 
 
+@overload
+def grow(
+    level: int,
+    rings: int,
+    mask: ReadableBuffer,
+    out: None = None,
+    work: WriteableBuffer | None = None,
+) -> bytearray: ...
+@overload
+def grow(
+    level: int, rings: int, mask: ReadableBuffer, out: _Out, work: WriteableBuffer | None = None
+) -> _Out: ...
 def grow(
     level: int,
     rings: int,
@@ -478,6 +493,18 @@ def grow(
     return _rings("grow", level, rings, mask, out, work)
 
 
+@overload
+def shrink(
+    level: int,
+    rings: int,
+    mask: ReadableBuffer,
+    out: None = None,
+    work: WriteableBuffer | None = None,
+) -> bytearray: ...
+@overload
+def shrink(
+    level: int, rings: int, mask: ReadableBuffer, out: _Out, work: WriteableBuffer | None = None
+) -> _Out: ...
 def shrink(
     level: int,
     rings: int,
@@ -490,6 +517,10 @@ def shrink(
     return _rings("shrink", level, rings, mask, out, work)
 
 
+@overload
+def join(level: int, a: ReadableBuffer, b: ReadableBuffer, out: None = None) -> bytearray: ...
+@overload
+def join(level: int, a: ReadableBuffer, b: ReadableBuffer, out: _Out) -> _Out: ...
 def join(
     level: int, a: ReadableBuffer, b: ReadableBuffer, out: WriteableBuffer | None = None
 ) -> WriteableBuffer:
@@ -516,6 +547,10 @@ def within(level: int, a: ReadableBuffer, b: ReadableBuffer) -> Within:
     return Within(None if lacking.value == _NO_CELL else lacking.value)
 
 
+@overload
+def fill(level: int, border: ReadableBuffer, outside: int, out: None = None) -> bytearray: ...
+@overload
+def fill(level: int, border: ReadableBuffer, outside: int, out: _Out) -> _Out: ...
 def fill(
     level: int, border: ReadableBuffer, outside: int, out: WriteableBuffer | None = None
 ) -> WriteableBuffer:

@@ -26,7 +26,7 @@ def main() -> None:
     temperatures, ages = array("f", [21.0] * cells), bytearray(cells)
     news = array("f", [16.0] * cells)
     cell: int = cell_at(LEVEL, Latitude(-27_600_000), Longitude(-89_700_000))
-    cloud = grow(LEVEL, 1, mask_of([cell]))
+    cloud: bytearray = grow(LEVEL, 1, mask_of([cell]))
     print(f"{count(LEVEL, cloud)} of {cells} cells are under cloud")
     # A temperature is carried for two days.
     summary: Summary = day(LEVEL, 2, news, cloud, temperatures, ages)

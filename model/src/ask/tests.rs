@@ -20,6 +20,12 @@ fn words_are_read_or_named() {
     assert!(code("x").unwrap_err().contains("tlrewTEW"));
     assert!(ask("cell 1 0").unwrap_err().starts_with("LONGITUDE is missing\nusage: cell LEVEL"));
     assert!(ask("cell 1 0 0 0").unwrap_err().starts_with("there are too many words"));
+    for wrong in ["61.17", "--1", "-", "+1", "2147483648", "-2147483649"] {
+        let said = ask(&format!("cell 1 {wrong} 0")).unwrap_err();
+        assert!(said.starts_with("LATITUDE is not in whole millionths of a degree"), "{said}");
+        assert!(said.contains(&format!("'{wrong}'")), "{said}");
+    }
+    assert_eq!(ask("cell 1 -2147483648 0").as_deref(), Ok("refused 2"));
     assert!(ask("nonsense").unwrap_err().starts_with("there is no call 'nonsense'"));
     assert!(ask("grow 0 1 8").unwrap_err().starts_with("a mask of level 0 has no cell 8"));
     assert!(ask("join 0 1").unwrap_err().starts_with("2 lists with / between are needed, not 1"));

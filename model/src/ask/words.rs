@@ -51,9 +51,13 @@ impl<'a> Words<'a> {
     /// A latitude or a longitude.
     pub fn angle(&mut self, name: &str) -> Read<i32> {
         let word = self.next(name)?;
-        let digits = word.strip_prefix('-').unwrap_or(word);
-        number(name, digits)?;
-        word.parse().map_err(|_| format!("{name} is out of 32 bits: {word}"))
+        let value = if is_digits(word.strip_prefix('-').unwrap_or(word)) {
+            word.parse().ok()
+        } else {
+            None
+        };
+        let needed = "whole millionths of a degree, of at most 32 bits";
+        value.ok_or(format!("{name} is not in {needed}: '{word}'"))
     }
 
     pub fn cell(&mut self) -> Read<u32> {
@@ -92,9 +96,12 @@ impl<'a> Words<'a> {
 
 /// A number of digits alone, below 2^32.
 pub fn number(name: &str, word: &str) -> Read<u32> {
-    let digits = !word.is_empty() && word.bytes().all(|byte| byte.is_ascii_digit());
-    let value = if digits { word.parse().ok() } else { None };
+    let value = if is_digits(word) { word.parse().ok() } else { None };
     value.ok_or(format!("{name} is not a number from 0 to 4294967295: '{word}'"))
+}
+
+fn is_digits(word: &str) -> bool {
+    !word.is_empty() && word.bytes().all(|byte| byte.is_ascii_digit())
 }
 
 /// A cell's number, or @ and its address: the octant's digit and one digit a level.

@@ -70,7 +70,7 @@ fn arrays_of_other_lengths_are_refused() {
     let folder = chart(&[21.0; 8], [0; 8]);
     folder.put("short", &floats(&[21.0; 7]));
     let sentence = folder.refused("chart import --date 2026-03-08 short a d", 5);
-    assert!(sentence.ends_with("(level 0; short has 28 bytes, a has 8 bytes)"), "{sentence}");
+    assert!(sentence.ends_with("(level 0: short has 28 bytes, not 32)"), "{sentence}");
     folder.refused("chart import --date 2026-03-08 t short d", 5);
     folder.refused("chart import --date 2026-03-08 --level 1 t a d", 5);
     folder.refused("chart import --date 2026-03-08 --level 9 t a d", 1);

@@ -86,8 +86,12 @@ fn refused_days() {
     folder.put("short", &floats(&[21.0; 7]));
     let day = |options: &str| format!("day --date 2026-03-09 {options} c");
     let sentence = folder.refused(&day("--rings 0 --limit 2 short cloud"), 5);
-    assert!(sentence.ends_with("(level 0; short has 28 bytes, cloud has 1 byte)"), "{sentence}");
-    folder.refused(&day("--rings 0 --limit 2 news t"), 5);
+    assert!(sentence.ends_with("(level 0: short has 28 bytes, not 32)"), "{sentence}");
+    let sentence = folder.refused(&day("--rings 0 --limit 2 a t"), 5);
+    assert!(
+        sentence.ends_with("(level 0: a has 8 bytes, not 32; t has 32 bytes, not 1)"),
+        "{sentence}"
+    );
     assert_eq!(
         folder.refused(&day("--rings 65 --limit 2 news cloud"), 6),
         "there are more than 64 rings"
@@ -108,6 +112,8 @@ fn refused_days() {
     folder.wrong_line("day --rings 1 --limit 2 --date 2026-03-09 news cloud .", ".: is not a file");
     folder.wrong_line("day --rings 1 --limit 2 --date 9/3/2026 news cloud c", "not '9/3/2026'");
     folder.wrong_line("day --rings 1 --limit 2 news", "CHART is missing");
+    folder.wrong_line("day --rings 1 --limit 2 --date 2026-03-09 news cloud", "CHART is missing");
+    folder.wrong_line("day --rings 1 --limit 2 --date 2026-03-09", "NEWS is missing");
     let missing = "day --rings 1 --limit 2 --missing clear --date 2026-03-09 news cloud c";
     folder.wrong_line(missing, "--missing is followed by cloud, not by 'clear'");
 }
@@ -173,7 +179,7 @@ fn a_folder_that_is_not_in_order() {
     folder.wrong_line(line, "days/2026-03-10.temperatures: is missing");
     folder.put("days/2026-03-10.temperatures", &floats(&[20.0; 8]));
     let sentence = folder.refused(line, 5);
-    assert!(sentence.contains("days/2026-03-10.cloud has 2 bytes"), "{sentence}");
+    assert!(sentence.contains("days/2026-03-10.cloud has 2 bytes, not 1"), "{sentence}");
     for name in
         ["README", ".hidden", "2026-03-11.temperature", "2026-3-11.cloud", "2026-02-30.cloud"]
     {

@@ -102,6 +102,22 @@ fn redirected_streams_are_known() {
 }
 
 #[test]
+fn a_closed_standard_input_is_not_an_empty_one() {
+    let folder = Folder::new();
+    for words in ["mask mark --level 0 out", "count -", "cell --level 1 -", "centre --level 1 -"] {
+        let words: Vec<&str> = words.split(' ').collect();
+        let output = folder.shell("exec \"$0\" \"$@\" <&-", &words).output().unwrap();
+        let said = String::from_utf8(output.stderr).unwrap();
+        assert_eq!(said, "ticklocust: standard input: is closed\n", "{words:?}");
+        assert_eq!((output.status.code(), output.stdout), (Some(2), Vec::new()), "{words:?}");
+    }
+    assert!(folder.all().is_empty());
+    // What doesn't read it doesn't need it.
+    let new = ["chart", "new", "--level", "0", "--date", "2026-03-08", "c"];
+    assert!(folder.shell("exec \"$0\" \"$@\" <&-", &new).status().unwrap().success());
+}
+
+#[test]
 fn what_a_redirected_file_had_stays() {
     let folder = Folder::new();
     folder.put("m", &[1]);

@@ -6,8 +6,8 @@ mod crashes;
 mod damage;
 mod days;
 mod examples;
+mod false_charts;
 mod files;
-mod lies;
 mod masks;
 mod places;
 
@@ -169,6 +169,7 @@ fn wrong_words_are_told() {
     folder.wrong(&["grow", "--rings=-1", "a", "b"], "not '-1'");
     folder.wrong(&["grow", "--ring", "2", "a", "b"], "there is no option '--ring' here");
     folder.wrong(&["count", "absent"], "absent: No such file");
+    folder.wrong(&["--version", "x"], "'x' is one word too many");
     folder.wrong(&["help", "nonsense"], "there is no help on 'nonsense'");
     folder.wrong(&["help", "grow", "more"], "there is no help on 'grow more'");
     folder.wrong(&["--help", "chart", "nonsense"], "there is no help on 'chart nonsense'");

@@ -54,9 +54,12 @@ fn refused_masks() {
     assert!(sentence.ends_with("(level 1 has 32 cells)"), "{sentence}");
     folder.refused("fill --outside 0 m1 out", 8);
     let sentence = folder.refused("count long", 5);
-    assert!(sentence.ends_with("(level 8; long has more than 65536 bytes)"), "{sentence}");
+    assert!(
+        sentence.ends_with("(level 8: long has more than 65536 bytes, not 65536)"),
+        "{sentence}"
+    );
     let sentence = folder.refused("mask and m1 m3 out", 5);
-    assert!(sentence.ends_with("(level 1; m1 has 4 bytes, m3 has 3 bytes)"), "{sentence}");
+    assert!(sentence.ends_with("(level 1: m3 has 3 bytes, not 4)"), "{sentence}");
     folder.refused("mask minus m3 m1 out", 5);
     folder.refused("mask not m3 out", 5);
     folder.refused("mask list m0", 5);

@@ -1,6 +1,7 @@
 //! `day`.
 
 use std::ffi::{OsStr, OsString};
+use std::path::Path;
 use std::time::Instant;
 
 use ticklocust::{chart_len, mask_len, Refusal, Summary};
@@ -25,7 +26,7 @@ pub fn day(words: &[OsString]) -> Done {
     let words = Words::sort(words, &["rings", "limit", "date", "missing", "to"])?;
     let rules = Rules { rings: words.needed("rings")?, limit: words.needed("limit")? };
     let missing = missing(&words)?;
-    let folder = words.count() <= 2;
+    let folder = names_folder(&words);
     let (days, place) = if folder { days_of(&words)? } else { one_day(&words)? };
     let started = Instant::now();
 
@@ -68,6 +69,12 @@ fn missing(words: &Words) -> Result<bool, Trouble> {
             Err(Trouble::usage(format!("--missing is followed by cloud, not by '{value}'")))
         }
     }
+}
+
+/// Whether the places are a folder and a chart, and not those of one day with some left out.
+fn names_folder(words: &Words) -> bool {
+    let first = words.first().map(Path::new);
+    words.count() <= 2 && (words.option("date").is_none() || first.is_some_and(Path::is_dir))
 }
 
 fn days_of(words: &Words) -> Result<(Vec<Day>, &OsStr), Trouble> {

@@ -8,6 +8,7 @@ use std::os::fd::AsFd;
 use std::os::unix::fs::MetadataExt;
 use std::path::{Path, PathBuf};
 
+use crate::process::input_was_open;
 use crate::trouble::Trouble;
 
 /// The name to tell of a place: `-` is standard input or output, as `stream` says.
@@ -79,6 +80,9 @@ impl Inputs {
     pub fn standard_input(&mut self) -> Result<(), Trouble> {
         if self.standard {
             return Err(Trouble::usage("standard input can stand for one file only"));
+        }
+        if !input_was_open() {
+            return Err(Trouble::file("standard input", "is closed"));
         }
         self.standard = true;
         self.files.push(("standard input".to_string(), Identity::of_stream(io::stdin())));

@@ -81,6 +81,10 @@ fn run(words: &[OsString]) -> Done {
         return Err(Trouble::usage("no subcommand is given"));
     };
     if first == "--version" {
+        if let Some(more) = words.get(1) {
+            let more = more.to_string_lossy();
+            return Err(Trouble::usage(format!("'{more}' is one word too many")));
+        }
         return say(&format!("ticklocust {}\n", env!("CARGO_PKG_VERSION")));
     }
     if asks_help(first) || first == "help" {

@@ -61,20 +61,23 @@ pub fn level_of(length: usize, unit: usize) -> u32 {
 /// A file that was read, its length, and the most that is read of such a file.
 pub type Length<'a> = (&'a OsStr, usize, usize);
 
-/// A refusal, and where it is one of length the lengths of the files that were read.
+/// A refusal, and where it is one of length the files that have another than their level's.
 pub fn lengths_told(of: Of, refusal: Refusal, level: u32, files: &[Length]) -> Trouble {
     if refusal != Refusal::Length {
         return of.refuses(refusal);
     }
-    let lengths: Vec<String> = files
-        .iter()
+    // The most is the length at the highest level.
+    let needed = |most: usize| most >> (2 * MAX_MASK_LEVEL.saturating_sub(level));
+    let wrong = files.iter().filter(|(_, length, most)| *length != needed(*most));
+    let lengths: Vec<String> = wrong
         .map(|(place, length, most)| {
             let more = if length > most { "more than " } else { "" };
             let bytes = if *length == 1 { "byte" } else { "bytes" };
-            format!("{} has {more}{} {bytes}", told(place, "standard input"), length.min(most))
+            let has = format!("has {more}{} {bytes}, not {}", length.min(most), needed(*most));
+            format!("{} {has}", told(place, "standard input"))
         })
         .collect();
-    of.refuses(refusal).at(&format!("level {level}; {}", lengths.join(", ")))
+    of.refuses(refusal).at(&format!("level {level}: {}", lengths.join("; ")))
 }
 
 pub fn grow(words: &[OsString]) -> Done {

@@ -1,5 +1,5 @@
-//! What the standard library doesn't offer: waiting for a signal, and whether standard output was
-//! open when the program started. The command's only unsafe code.
+//! What the standard library doesn't offer: waiting for a signal, and whether standard input and
+//! output were open when the program started. The command's only unsafe code.
 //!
 //! The declarations and numbers are those of Linux on x86-64.
 
@@ -55,18 +55,26 @@ pub fn end_by(signal: c_int) -> ! {
     std::process::exit(128 + signal)
 }
 
+static INPUT_WAS_OPEN: AtomicBool = AtomicBool::new(true);
 static OUTPUT_WAS_OPEN: AtomicBool = AtomicBool::new(true);
 
-/// Run before `main`: the standard library opens /dev/null in place of a closed standard output, so
-/// that afterwards nobody can tell.
+/// Run before `main`: the standard library opens /dev/null in place of a closed stream, so that
+/// afterwards nobody can tell.
 #[used]
 #[link_section = ".init_array"]
-static BEFORE_MAIN: extern "C" fn() = note_output;
+static BEFORE_MAIN: extern "C" fn() = note_streams;
 
-extern "C" fn note_output() {
-    // SAFETY: the command takes no further argument and changes nothing.
-    let open = unsafe { fcntl(1, F_GETFD) } != -1;
-    OUTPUT_WAS_OPEN.store(open, Ordering::Relaxed);
+extern "C" fn note_streams() {
+    for (descriptor, was_open) in [(0, &INPUT_WAS_OPEN), (1, &OUTPUT_WAS_OPEN)] {
+        // SAFETY: the command takes no further argument and changes nothing.
+        let open = unsafe { fcntl(descriptor, F_GETFD) } != -1;
+        was_open.store(open, Ordering::Relaxed);
+    }
+}
+
+/// Whether standard input was open when the program started.
+pub fn input_was_open() -> bool {
+    INPUT_WAS_OPEN.load(Ordering::Relaxed)
 }
 
 /// Whether standard output was open when the program started.

@@ -126,7 +126,7 @@ impl Of {
             }
             (Refusal::Length, Of::Cells) => "the border has no cells".to_string(),
             (Refusal::Length, _) => {
-                "a file is not of the length that the level asks for".to_string()
+                "a file doesn't have the length that its level needs".to_string()
             }
             (Refusal::Count, Of::Days) => format!("the limit is above {MAX_DAYS} days"),
             (Refusal::Count, _) => format!("there are more than {MAX_RINGS} rings"),

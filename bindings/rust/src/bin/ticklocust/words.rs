@@ -73,6 +73,11 @@ impl Words {
         Date::of(name, self.value(name)?)
     }
 
+    /// The first place.
+    pub fn first(&self) -> Option<&OsStr> {
+        self.places.first().map(OsString::as_os_str)
+    }
+
     /// How many places there are.
     pub fn count(&self) -> usize {
         self.places.len()

@@ -11,7 +11,7 @@ const DAY: &str = "day --rings 0 --limit 30 --date 2026-03-09 news cloud c";
 const SAID: &str = "2026-03-09: fresh 5, coldest 16.0 °C, warmest 16.5 °C\n";
 
 #[test]
-fn lie_1_temperatures_and_ages_of_different_days() {
+fn way_1_temperatures_and_ages_of_different_days() {
     // A chart is one file: half of it can't be written elsewhere.
     let folder = begun();
     folder.wrong_line(
@@ -29,7 +29,7 @@ fn lie_1_temperatures_and_ages_of_different_days() {
 }
 
 #[test]
-fn lie_2_missing_days_that_nobody_counts() {
+fn way_2_missing_days_that_nobody_counts() {
     let folder = begun();
     put_day(&folder, "2026-03-09", 17.0, 0);
     put_day(&folder, "2026-03-17", 18.0, 255);
@@ -41,7 +41,7 @@ fn lie_2_missing_days_that_nobody_counts() {
 }
 
 #[test]
-fn lie_3_days_in_the_order_of_their_names() {
+fn way_3_days_in_the_order_of_their_names() {
     let folder = begun();
     std::fs::create_dir(folder.0.join("days")).unwrap();
     for day in ["1", "2", "10"] {
@@ -52,7 +52,7 @@ fn lie_3_days_in_the_order_of_their_names() {
 }
 
 #[test]
-fn lie_4_a_retry_that_ages_twice() {
+fn way_4_a_retry_that_ages_twice() {
     let folder = begun();
     let before = folder.all();
     let full = OpenOptions::new().write(true).open("/dev/full").unwrap();
@@ -67,7 +67,7 @@ fn lie_4_a_retry_that_ages_twice() {
 }
 
 #[test]
-fn lie_5_cloud_that_is_not_grown() {
+fn way_5_cloud_that_is_not_grown() {
     let folder = begun();
     folder.wrong_line("day --limit 30 --date 2026-03-09 news cloud c", "--rings is missing");
     folder.prints(&DAY.replace("--rings 0", "--rings 1"), "2026-03-09: fresh 0\n");
@@ -76,7 +76,7 @@ fn lie_5_cloud_that_is_not_grown() {
 }
 
 #[test]
-fn lie_6_a_day_over_its_own_inputs() {
+fn way_6_a_day_over_its_own_inputs() {
     let folder = begun();
     std::fs::hard_link(folder.0.join("c"), folder.0.join("linked")).unwrap();
     std::os::unix::fs::symlink("news", folder.0.join("soft")).unwrap();
@@ -90,7 +90,7 @@ fn lie_6_a_day_over_its_own_inputs() {
 }
 
 #[test]
-fn lie_7_two_runs_at_once() {
+fn way_7_two_runs_at_once() {
     let folder = begun();
     let words: Vec<&str> = DAY.split(' ').collect();
     let first = Blocked::start(&folder, &words);
@@ -107,7 +107,7 @@ fn lie_7_two_runs_at_once() {
 }
 
 #[test]
-fn lie_8_a_chart_without_a_date() {
+fn way_8_a_chart_without_a_date() {
     // Nobody ran a day for a week: what the chart calls fresh is as of its date, and the next day
     // doesn't follow it.
     let folder = begun();
