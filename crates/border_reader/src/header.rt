@@ -19,7 +19,7 @@ pub(crate) enum HeaderAnswer {
     Refused(u8),
 }
 
-// For level, start and count in turn the number and then its bound.
+// The level, the start cell and the number of codes: each is read and then held against its bound.
 pub(crate) fn read_header(bytes: &[u8]) -> HeaderAnswer
     ensures answer { λ r. ⌜ saidHeader r ≡ inOrder (headerTests (now (bytes .entry))) (header (now (bytes .entry))) ⌝ }
     ensures sound { λ r. ⌜ Sound (now (bytes .entry)) r ⌝ }

@@ -1,4 +1,4 @@
--- Steps and codes (docs/RULES.md, 4). The codes 0 to 7 are t, l, r, e, w, T, E, W. At level k, N is 2 ^ k.
+-- Steps and codes (docs/RULES.md, 4). A code is a number from 0 to 7; its letter stands beside it below. At level k, N is 2 ^ k.
 use Prim.Native.Nat.{ℕ, zero, suc, _+_, _*_, _-_, _/_, _%_, _^_}
 use mathlib.Core.Bool.{Bool, true, false}
 use mathlib.Core.List.{List, [], _∷_, map}
@@ -15,7 +15,7 @@ use Rattle.cell.specs.Cell.{Triangle, up, down, span, Place, place, number, max
 unfoldable pub across : ℕ → ℕ
 across o = (o + 4) % 8
 
--- the octant to the east: 0, 1, 2, 3, 0 and 4, 5, 6, 7, 4; and to the west, the other way round
+-- the octant to the east, in a ring of four in each hemisphere; and to the west, the other way round
 unfoldable pub east : ℕ → ℕ
 east o = o / 4 * 4 + (o + 1) % 4
 
@@ -39,7 +39,7 @@ abbrev pub inside : ℕ → ℕ → Option Triangle → Option Place
 inside k o none = none
 inside k o (some f) = foundIf (leb (span f) (2 ^ k)) (o, f)
 
--- the steps from a place of octant o, for the codes t, l, r, e, w, T, E, W in turn
+-- the steps from a place of octant o, for the codes 0 to 7 in turn: t, l, r, e and w inside the octant, then T, E and W over its edges
 unfoldable pub steps : ℕ → ℕ → Triangle → List (Option Place)
 steps k o (up a b) =
     inside k o (less a (λ a′. down a′ b))

@@ -1,5 +1,5 @@
--- One day of a chart (docs/RULES.md, 7.3): it reads new temperatures and a cloud mask, rewrites the chart's two slices, and answers a
--- summary of the chart that it leaves.
+-- One day of a chart (docs/RULES.md, 7.3): from new temperatures and a cloud mask it makes the chart's two slices anew, and it
+-- sums up the chart that it leaves.
 use Prim.Native.Nat.{ℕ, zero, suc, _+_, _^_, _<_}
 use mathlib.Core.Bool.{Bool, true, false, _&&_, not, cond}
 use mathlib.Core.List.{List, [], _∷_, _++_}
@@ -51,7 +51,7 @@ readsAfter n d new clouds temps ages = readingAt (temperaturesAfter n d new clou
 
 -- ---- the summary
 
--- count, coldest and warmest of the fresh cells
+-- how many cells are fresh, and the lowest and the highest of their temperatures
 pub record Summary : Type 0 where
   pub count : ℕ
   pub coldest : Float
@@ -61,7 +61,7 @@ pub record Summary : Type 0 where
 abbrev pub noneFresh : Summary
 noneFresh = record { count = 0; coldest = nought; warmest = nought }
 
--- a fresh cell more: the first of all is coldest and warmest; on equal temperatures the first in cell order stands
+-- a fresh cell more: the first of all is coldest and warmest; of equal temperatures the one of the lowest cell stays
 unfoldable pub withFresh : Summary → Float → Summary
 withFresh s t =
     cond (eqb (s .count) 0)

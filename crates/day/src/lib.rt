@@ -17,7 +17,7 @@ use refusal::Outcome;
 // The age that a day gives a cell with nothing to read.
 const GAP_AGE: u8 = 255;
 
-// Count, coldest and warmest of the fresh cells.
+// How many cells are fresh, and the lowest and the highest of their temperatures.
 pub struct Summary {
     pub count: u32,
     pub coldest: f32,
@@ -157,7 +157,7 @@ fn day_tests(
     }
 }
 
-// One day: rewrites the chart by new temperatures and a cloud mask, and answers a summary of the chart that it leaves.
+// One day: makes the chart anew from new temperatures and a cloud mask, and sums up the chart that it leaves.
 pub fn day(
     level: u32,
     limit: u32,

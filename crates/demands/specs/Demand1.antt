@@ -134,7 +134,8 @@ pub record Demand1 : Type 0 where
   pub write-number : (n at : ℕ) (out : List ℕ) →
       let next = at + length (numeral n) in
       LentByTests ((5 when ltb (length out) next) ∷ []) (writeCall n out at) next out (take at out ++ (numeral n ++ drop next out))
-  -- the border reader: for level, start and count in turn the number (10, 11) and then its bound (1, 4, 9); then 10, 12, 5, 7
+  -- the border reader: level, start cell and number of codes, of each first whether the number is sound (10, 11) and then whether it is too high (1, 4,
+  -- 9); after these whether the codes' bytes are there (10), nothing else is (12), the cells have room (5) and every step exists (7)
   pub read-border : (bs out : List ℕ) →
       let (k, start, n, at) = header bs in
       let found = foundOr [] (cellsOf bs (header bs)) in
@@ -147,7 +148,7 @@ pub record Demand1 : Type 0 where
       ∷ (5 when leb (length out) n)
       ∷ badStep (cellsOf bs (header bs)) ∷ [])
       (readBorder bs out) (k, length found) out (found ++ drop (length found) out)
-  -- the border writer: 1, 5 (no cells), 9, 4, 7, 5 (room)
+  -- the border writer: the level (1), no cells at all (5), too many codes (9), the cells (4), the steps between them (7), the room (5)
   pub write-border : (k : ℕ) (cs out : List ℕ) →
       InOrder
       (badLevel maxLevel k

@@ -68,12 +68,12 @@ WholePart w x d = (w * d ≤ x) × (x < (w + 1) * d)
 
 -- (y, x) is the centre of a cell of row a and column b in octant o
 pub record CentreIs (k o a b s : ℕ) (y x : ℤ) : Type 0 where
-  -- p is the whole part of q(3a+s)/(3N), m that of (3b+s)·q²/(3N(q−p))
+  -- whole parts both: p of q·(3a+s) / 3N, and m, by that p, of (3b+s)·q² / 3N·(q−p)
   pub p : ℕ
   pub m : ℕ
   pub p-is : WholePart p (q * (3 * a + s)) (3 * 2 ^ k)
   pub m-is : WholePart m ((3 * b + s) * (q * q)) (3 * 2 ^ k * (q - p))
-  -- the latitude is p, in the south −p; the longitude is the octant's beginning plus m
+  -- p is the latitude without its sign, which is negative in the south; m is how far east of the octant's beginning the centre lies
   pub north : o < 4 → y ≡ pos p
   pub south : 4 ≤ o → y ≡ negℤ (pos p)
   pub longitude : x ≡ beginning o +ℤ pos m
@@ -110,9 +110,9 @@ answersFresh (refused n) = false
 pub record Demand2 : Type 0 where
   -- a number's place has that number, and a place's number has that place
   pub numbered : (k n : ℕ) (p : Place) → (placeCall k n ≡ given p) ↔ (numberCall k p ≡ given n)
-  -- the places are up(a,b) with a+b ≤ N−1 and down(a,b) with a+b ≤ N−2, in octants 0 to 7, and no others
+  -- the places that a level has are those of `Occurs`: up and down triangles within the octant's diagonal, in octants 0 to 7
   pub places : (k : ℕ) (p : Place) → k ≤ maxLevel → ((n : ℕ) × (placeCall k n ≡ given p)) ↔ Occurs k p
-  -- level 0 is up(0,0)
+  -- at level 0 every octant is one cell, which points up
   pub level-zero : (n : ℕ) → n < 8 → placeCall 0 n ≡ given (n, up 0 0)
   -- child d of cell n of level k, by the table of children, is cell 4n + d of level k + 1
   pub children : (k n d : ℕ) (p : Place) → suc k ≤ maxLevel → d < 4 → placeCall k n ≡ given p →
@@ -128,9 +128,9 @@ pub record Demand2 : Type 0 where
   -- and no other cell of that octant holds it
   pub cell-alone : (k : ℕ) (y x : ℤ) (n m : ℕ) → cellCall k y x ≡ given n → natAbs y < q →
       place k m .0 ≡ octant y x → Holds k (natAbs y) (offset x) (place k m .1) → m ≡ n
-  -- at a pole it is up(N−1,0) of the octant that the longitude names
+  -- at a pole it is the cell at the pole, up(N−1,0), in the octant of the longitude given
   pub at-pole : (k : ℕ) (y x : ℤ) (n : ℕ) → cellCall k y x ≡ given n → natAbs y ≡ q → place k n ≡ (octant y x, up (2 ^ k - 1) 0)
-  -- south is the mirror image of north: the cell at −y is that at y, four octants on
+  -- the south mirrors the north: the cell at −y is that at y, four octants on
   pub south-mirrors : (k y : ℕ) (x : ℤ) (n : ℕ) → 1 ≤ y →
       (cellCall k (pos y) x ≡ given n) ↔ (cellCall k (negℤ (pos y)) x ≡ given (n + 4 * 4 ^ k))
   -- the cell of a position one level up is the parent of its cell, at the poles too
@@ -147,17 +147,17 @@ pub record Demand2 : Type 0 where
   pub inside-octant : (k n m c : ℕ) → c < 5 →
       (stepCall k n c ≡ given m) ↔
       ((o : ℕ) × (f : Triangle) × (g : Triangle) × (placeCall k n ≡ given (o, f)) × (placeCall k m ≡ given (o, g)) × Inside c f g)
-  -- a = 0 gives T, the same (a,b) in the other hemisphere; for up cells alone
+  -- T leads from the up cells of row 0, and from no others, to the same row and column across the equator
   pub T-leads : (k n m : ℕ) → (stepCall k n 5 ≡ given m) ↔
       ((o : ℕ) × (b : ℕ) × (placeCall k n ≡ given (o, up 0 b)) × (placeCall k m ≡ given (across o, up 0 b)))
-  -- a+b = N−1 gives E, up(a,0) of the octant to the east; for up cells alone
+  -- E leads from the up cells at the east edge, and from no others, to column 0 of the next octant to the east
   pub E-leads : (k n m : ℕ) → (stepCall k n 6 ≡ given m) ↔
       ((o : ℕ) × (a : ℕ) × (b : ℕ) × (a + b + 1 ≡ 2 ^ k) ×
       (placeCall k n ≡ given (o, up a b)) × (placeCall k m ≡ given (east o, up a 0)))
-  -- b = 0 gives W, up(a,N−1−a) of the octant to the west; for up cells alone
+  -- W leads from the up cells of column 0, and from no others, to the last up cell of the row in the next octant to the west
   pub W-leads : (k n m : ℕ) → (stepCall k n 7 ≡ given m) ↔
       ((o : ℕ) × (a : ℕ) × (placeCall k n ≡ given (o, up a 0)) × (placeCall k m ≡ given (west o, up a (2 ^ k - 1 - a))))
-  -- east runs 0, 1, 2, 3, 0 and 4, 5, 6, 7, 4
+  -- to the east the northern octants follow one another in a ring, and so do the southern ones
   pub east-runs : map east (0 ∷ 1 ∷ 2 ∷ 3 ∷ 4 ∷ 5 ∷ 6 ∷ 7 ∷ []) ≡ 1 ∷ 2 ∷ 3 ∷ 0 ∷ 5 ∷ 6 ∷ 7 ∷ 4 ∷ []
   -- a code above 7 is refused 7
   pub code-above : (k n c : ℕ) → k ≤ maxLevel → n < cells k → 7 < c → stepCall k n c ≡ refused 7
@@ -170,7 +170,7 @@ pub record Demand2 : Type 0 where
       (codeCall k n m ≡ refused 7) ↔ ((c : ℕ) → ¬ (stepCall k n c ≡ given m))
   -- a step can be taken back, along the code back
   pub step-back : (k n c m : ℕ) → stepCall k n c ≡ given m → stepCall k m (back c) ≡ given n
-  -- each cell has exactly three direct neighbours, by t or T, l or W, r or E
+  -- every cell has three direct neighbours and no more: one across each side, by t or T, by l or W, by r or E
   pub three-neighbours : (k n : ℕ) → k ≤ maxLevel → n < cells k → Neighbours k n
   pub three-direct : (k n : ℕ) → n < cells k → length (rising (isDirect k n) (cells k) 0) ≡ 3
   -- the direct neighbours that filling goes by are those to which a direct code leads
@@ -183,22 +183,22 @@ pub record Demand2 : Type 0 where
   pub touch-mutual : (k n m : ℕ) → touchCall k n m ≡ touchCall k m n
   -- direct neighbours touch
   pub neighbours-touch : (k n m c : ℕ) → direct c ≡ true → stepCall k n c ≡ given m → touchCall k n m ≡ given true
-  -- the list of touching cells: exactly these cells, each once, rising by number, in a slice of 12 whose unused places hold 4,294,967,295
+  -- the list of touching cells has just these cells, each once and in ascending order, and then unused places up to 12
   pub touch-list : (k n j : ℕ) (out : List ℕ) → listCall k n out .0 ≡ given j → TouchList k n j (listCall k n out .1)
-  -- they are 6 at level 0; above it 10 for an octant's three corner cells, and 12 for others
+  -- a cell of level 0 touches 6 others; above level 0 a corner cell of its octant touches 10, any other cell 12
   pub six-touch : (n j : ℕ) (out : List ℕ) → listCall 0 n out .0 ≡ given j → j ≡ 6
   pub ten-touch : (k n j : ℕ) (out : List ℕ) → listCall k n out .0 ≡ given j → 1 ≤ k → CornerCell k (place k n) → j ≡ 10
   pub twelve-touch : (k n j : ℕ) (out : List ℕ) → listCall k n out .0 ≡ given j → 1 ≤ k → ¬ CornerCell k (place k n) → j ≡ 12
-  -- the seven indirect neighbours of a corner cell are three at level 0
+  -- a corner cell has seven indirect neighbours, at level 0 three
   pub seven-indirect : (k n : ℕ) → 1 ≤ k → n < cells k → CornerCell k (place k n) → length (indirect k n) ≡ 7
   pub three-indirect : (n : ℕ) → n < cells 0 → length (indirect 0 n) ≡ 3
   -- points on the edges of octants are points like others: six cells meet at each, but four at the octahedron's six corners
   pub six-meet : (k : ℕ) (x y z : ℤ) → norm (x ∷ y ∷ z ∷ []) ≡ 2 ^ k → ¬ Tip (x ∷ y ∷ z ∷ []) → length (cellsAt k (x ∷ y ∷ z ∷ [])) ≡ 6
   pub four-meet : (k : ℕ) (x y z : ℤ) → norm (x ∷ y ∷ z ∷ []) ≡ 2 ^ k → Tip (x ∷ y ∷ z ∷ []) → length (cellsAt k (x ∷ y ∷ z ∷ [])) ≡ 4
-  -- filled are exactly the cells that the outside cell can't reach by direct steps through unmarked cells
+  -- a cell is filled exactly when no chain of direct steps over unmarked cells leads to it from the outside cell
   pub fill-exactly : (k : ℕ) (a : List ℕ) (o : ℕ) (out : List ℕ) → fillCall k a o out .0 ≡ given done →
       (c : ℕ) → c < cells k → (marked (fillCall k a o out .1) c ≡ true) ↔ ¬ Reachable k (marked a) o c
-  -- the border is part of the fill
+  -- so the border itself is filled
   pub border-filled : (k : ℕ) (a : List ℕ) (o : ℕ) (out : List ℕ) → fillCall k a o out .0 ≡ given done →
       (c : ℕ) → c < cells k → marked a c ≡ true → marked (fillCall k a o out .1) c ≡ true
   -- and the outside cell is not
@@ -216,7 +216,7 @@ pub record Demand2 : Type 0 where
       (readingCall k temps ages c ≡ given gap) ↔ ((30 < ageAt ages c) ⊎ (inRange (temperatureAt temps c) ≡ false))
   -- NaN and the infinities are out of range
   pub nan-out : (inRange nan ≡ false) × ((minus : Bool) → inRange (inf minus) ≡ false)
-  -- after a day a cell is fresh exactly when that pass gave it an uncovered temperature in range, and then it reads that temperature
+  -- after a day a cell reads fresh with t exactly when the mask leaves it open and its new temperature, in range, is t
   pub day-fresh : (k d : ℕ) (new : List Float) (clouds : List ℕ) (temps : List Float) (ages : List ℕ) (s : Summary) →
       let after = dayCall k d new clouds temps ages in
       let left = after .1 in
@@ -273,7 +273,7 @@ pub record Demand2 : Type 0 where
   -- accepted bytes are those the writer writes for what was read
   pub border-written : (bs out lent : List ℕ) (k n : ℕ) → Bytes bs → readBorder bs out .0 ≡ given (k, n) → length bs ≤ length lent →
       writeBorder k (take n (readBorder bs out .1)) lent ≡ (given (length bs), bs ++ drop (length bs) lent)
-  -- what is written is level, start cell and number of codes, and then codes of three bits each, low bits first, the last byte padded with zeros
+  -- what is written: three stored numbers for level, start cell and number of codes, and the codes' bits
   pub border-layout : (k : ℕ) (cs out : List ℕ) (n : ℕ) → writeBorder k cs out .0 ≡ given n → Layout k cs (take n (writeBorder k cs out .1))
   -- reader and writer keep the length of the slice that they fill
   pub border-lengths : (bs cs out : List ℕ) (k : ℕ) → (length (readBorder bs out .1) ≡ length out) × (length (writeBorder k cs out .1) ≡ length out)

@@ -20,11 +20,11 @@ use Rattle.grow.specs.Grow.{maxRings, growCall, shrinkCall}
 unfoldable pub touchingStep : ℕ → ℕ → ℕ → Bool
 touchingStep k c d = touches k c d && ltb d (cells k)
 
--- c is at most m touching steps from d: some list of at most m + 1 cells of level k begins with c and ends with d, each touching the next
+-- a chain of no more than m + 1 cells of level k leads from c to d, in which every cell touches the next
 abbrev pub AtMostSteps : ℕ → ℕ → ℕ → ℕ → Type 0
 AtMostSteps k m c d = Walk (touchingStep k) m c d
 
--- c is at most m touching steps from a cell that a mask marks
+-- some cell that a mask marks is within m touching steps of c
 abbrev pub NearMarked : ℕ → ℕ → List ℕ → ℕ → Type 0
 NearMarked k m a c = (d : ℕ) × (d < cells k) × (marked a d ≡ true) × AtMostSteps k m c d
 
@@ -45,7 +45,7 @@ Accepted result = result .0 ≡ given done
 abbrev pub written : Answer (Unit {0}) × (List ℕ × List ℕ) → List ℕ
 written result = result .1 .0
 
--- one growing of a list: any level, any ring count, and any slices to write and to work in, whatever they hold
+-- one growing of a list: its level, its rings, and the slices lent to write and to work in; nothing is asked of any of them
 pub record Growing : Type 0 where
   pub level : ℕ
   pub rings : ℕ
@@ -94,9 +94,9 @@ pub record Accepts : Type 0 where
 -- ---- the demand
 
 pub record Demand3 : Type 0 where
-  -- the calls are accepted where the table of refused calls gives them no number
+  -- what docs/RULES.md, 9, does not refuse is accepted
   pub accepts : Accepts
-  -- A and B joined mark exactly the cells marked in either
+  -- a cell is marked in A and B joined exactly when A marks it or B does
   pub joins : (k : ℕ) (a b out : List ℕ) → Accepted (joinCall k a b out) →
       (c : ℕ) → c < cells k → (marked (joinCall k a b out .1) c ≡ true) ↔ ((marked a c ≡ true) ⊎ (marked b c ≡ true))
   -- A is answered within B exactly when every cell marked in A is marked in B
@@ -106,20 +106,20 @@ pub record Demand3 : Type 0 where
   pub within-lacks : (k : ℕ) (a b : List ℕ) → k ≤ maxMaskLevel → Fits k a → Fits k b → (c : ℕ) →
       (withinCall k a b ≡ given (lacks c)) ↔
       ((c < cells k) × (marked a c ≡ true) × (marked b c ≡ false) × ((d : ℕ) → d < c → marked a d ≡ true → marked b d ≡ true))
-  -- A grown by m marks exactly the cells at most m touching steps from a cell marked in A
+  -- a cell is marked in A grown by m exactly when a cell that A marks is within m touching steps of it
   pub grown : (k m : ℕ) (a out work : List ℕ) → Accepted (growCall k m a out work) →
       (c : ℕ) → c < cells k → (marked (written (growCall k m a out work)) c ≡ true) ↔ NearMarked k m a c
-  -- A shrunk by m marks exactly the cells from which every cell within m touching steps is marked
+  -- a cell is marked in A shrunk by m exactly when A marks every cell within m touching steps of it
   pub shrunk : (k m : ℕ) (a out work : List ℕ) → Accepted (shrinkCall k m a out work) →
       (c : ℕ) → c < cells k →
       (marked (written (shrinkCall k m a out work)) c ≡ true) ↔ ((d : ℕ) → d < cells k → AtMostSteps k m c d → marked a d ≡ true)
-  -- after any list of growings the mask marks exactly the cells at most s touching steps from A, s the sum of the accepted ring counts
+  -- a cell is marked after a list of growings exactly when a cell that A marks is within s touching steps of it, s being the sum of the rings accepted
   pub list : (k : ℕ) (a : List ℕ) → Mask k a → (gs : List Growing) →
       (c : ℕ) → c < cells k → (marked (after gs a) c ≡ true) ↔ NearMarked k (ringsOf gs a) a c
   -- where s is at most 64, its bytes are those of A grown once by s
   pub list-once : (k : ℕ) (a : List ℕ) → k ≤ maxMaskLevel → Mask k a → (gs : List Growing) → ringsOf gs a ≤ maxRings →
       (out work : List ℕ) → Fits k out → Fits k work → after gs a ≡ written (growCall k (ringsOf gs a) a out work)
-  -- after the empty list the mask is A, and the sum 0
+  -- no growing changes nothing and adds no rings
   pub list-empty : (a : List ℕ) → (after [] a ≡ a) × (ringsOf [] a ≡ 0)
   -- A and B joined and then grown by m have the bytes of A and B each grown by m and then joined, whatever slices are lent
   pub joined : (k m : ℕ) (a b j o w o₁ w₁ o₂ w₂ j′ : List ℕ) →
@@ -138,7 +138,7 @@ pub record Demand3 : Type 0 where
   -- growing only adds
   pub only-adds : (k m : ℕ) (a out work : List ℕ) → Accepted (growCall k m a out work) →
       (c : ℕ) → c < cells k → marked a c ≡ true → marked (written (growCall k m a out work)) c ≡ true
-  -- c is at most m touching steps from d exactly when d is from c
+  -- steps count the same both ways
   pub both-ways : (k m c d : ℕ) → c < cells k → d < cells k → AtMostSteps k m c d ↔ AtMostSteps k m d c
-  -- a cell is 0 steps from itself
+  -- with no step a cell reaches itself and no other
   pub itself : (k c d : ℕ) → AtMostSteps k 0 c d ↔ (c ≡ d)

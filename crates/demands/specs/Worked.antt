@@ -17,7 +17,7 @@ All (P ∷ Ps) = P × All Ps
 
 unfoldable pub workedCells : List (Type 0)
 workedCells =
-    -- level 4: digits 3023 of octant 0 (cell 203) is down(3,9); 1003 (cell 67) is up(10,3)
+    -- level 4, octant 0: the cells with the digits 3023 and 1003
     (placeCall 4 203 ≡ given (0, down 3 9))
     ∷ (placeCall 4 67 ≡ given (0, up 10 3))
     -- T (code 5) of 02323 (cell 187) is 42323 (cell 1211)
@@ -26,13 +26,13 @@ workedCells =
     ∷ (stepCall 4 119 6 ≡ given 358)
     -- W (code 7) of 01212 (cell 102) is 31313 (cell 887)
     ∷ (stepCall 4 102 7 ≡ given 887)
-    -- level 1, latitude 22,500,000: longitude 30,000,000 gives cell 0, 29,999,999 gives cell 2
+    -- on a slanted side, and a millionth of a degree west of it
     ∷ (cellCall 1 (pos 22500000) (pos 30000000) ≡ given 0)
     ∷ (cellCall 1 (pos 22500000) (pos 29999999) ≡ given 2)
-    -- level 1, longitude 0: latitude 45,000,000 gives cell 1, 44,999,999 gives cell 2
+    -- on a side along a parallel, and a millionth of a degree south of it
     ∷ (cellCall 1 (pos 45000000) (pos 0) ≡ given 1)
     ∷ (cellCall 1 (pos 44999999) (pos 0) ≡ given 2)
-    -- the centre of cell 7 at level 0 is −30,000,000, −45,000,000; that of cell 2 at level 1 is 15,000,000, 18,000,000
+    -- the centres of cell 7 at level 0 and of cell 2 at level 1
     ∷ (centreCall 0 7 ≡ given (negℤ (pos 30000000), negℤ (pos 45000000)))
     ∷ (centreCall 1 2 ≡ given (pos 15000000, pos 18000000))
     -- level 0: the mask of cell 0 (byte 1) grown once is byte 191, grown twice 255; byte 191 shrunk once is byte 1

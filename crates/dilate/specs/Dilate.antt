@@ -8,7 +8,7 @@ use Rattle.corner.specs.Corner.{touches}
 use Rattle.raster.specs.Raster.{isMask}
 use Rattle.walk.specs.Reach.{grown}
 
--- cells at most m touching steps from a cell of a set
+-- cells that have within m touching steps one of a set
 abbrev pub grownCells : ℕ → ℕ → (ℕ → Bool) → ℕ → Bool
 grownCells k m A = grown (cells k) (touches k) m A
 

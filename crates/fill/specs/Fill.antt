@@ -23,7 +23,7 @@ Reachable k A o c = (m : ℕ) × Walk (openStep k A) m o c
 unfoldable pub reachable : ℕ → (ℕ → Bool) → ℕ → ℕ → Bool
 reachable k A o c = reaches (cells k) (openStep k A) (cells k) o c
 
--- what is filled: the cells that the outside cell can't reach
+-- what is filled: all cells but those that the outside cell reaches
 abbrev pub unreached : ℕ → (ℕ → Bool) → ℕ → ℕ → Bool
 unreached k A o = outside (reachable k A o)
 

@@ -8,7 +8,7 @@ use refusal::Outcome;
 
 mod search;
 
-// Marks in `out` all cells that the outside cell can't reach through cells that the border does not mark; the border is part of the fill.
+// Marks in `out` all cells but those that the outside cell reaches through cells that the border does not mark; so the border is marked too.
 pub fn fill(level: u32, border: &[u8], outside: CellNumber, out: &mut [u8]) -> Outcome
     ensures { λ r. ⌜ (saidOutcome r, now (out .exit)) ≡ fillCall level (now (border .entry)) outside (now (out .entry)) ⌝ }
 {

@@ -12,11 +12,11 @@ use Rattle.corner.specs.Corner.{touches}
 use Rattle.mask.specs.Mask.{maxMaskLevel}
 use Rattle.walk.specs.Reach.{grown, shrunk}
 
--- cells at most m touching steps from a cell of a set
+-- the cells that have one of a set within m touching steps
 abbrev pub grownCells : ℕ → ℕ → (ℕ → Bool) → ℕ → Bool
 grownCells k m A = grown (cells k) (touches k) m A
 
--- cells from which every cell within m touching steps is in a set
+-- the cells that have none but those of a set within m touching steps
 abbrev pub shrunkCells : ℕ → ℕ → (ℕ → Bool) → ℕ → Bool
 shrunkCells k m A = shrunk (cells k) (touches k) m A
 
@@ -39,7 +39,7 @@ growCall k m a out work =
     lending (inOrder (ringTests k m a out work) done)
     (out, work) (bytesOf (4 ^ k) (grownCells k m (marked a)), replicate (4 ^ k) 0)
 
--- shrink by m: the same with the cells from which every cell within m touching steps is marked
+-- shrink by m: the same with the cells that have only marked ones within m touching steps
 abbrev pub shrinkCall : ℕ → ℕ → List ℕ → List ℕ → List ℕ → Answer (Unit {0}) × (List ℕ × List ℕ)
 shrinkCall k m a out work =
     lending (inOrder (ringTests k m a out work) done)

@@ -49,8 +49,7 @@ pub fn grow(level: u32, rings: u32, mask: &[u8], out: &mut [u8], work: &mut [u8]
     }
 }
 
-// Marks in `out` the cells from which every cell within `rings` touching steps is marked in `mask`. `work` is lent for working and holds zeros
-// afterwards.
+// Marks in `out` the cells that have only cells marked in `mask` within `rings` touching steps. `work` is lent for working and holds zeros afterwards.
 pub fn shrink(level: u32, rings: u32, mask: &[u8], out: &mut [u8], work: &mut [u8]) -> Outcome
     ensures { λ r. ⌜ (saidOutcome r, (now (out .exit), now (work .exit))) ≡ shrinkCall level rings (now (mask .entry)) (now (out .entry)) (now (work .entry)) ⌝ }
 {

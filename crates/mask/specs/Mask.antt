@@ -1,4 +1,4 @@
--- Masks (docs/RULES.md, 6): a mask of level k is exactly 4^k bytes, and the cells of level k are the numbers below 8 × 4^k.
+-- Masks (docs/RULES.md, 6): one bit a cell, so 4^k bytes for the 8 × 4^k cells of level k.
 use Prim.Native.Nat.{ℕ, zero, suc, _^_}
 use mathlib.Core.Bool.{Bool, _&&_, _||_, not, cond}
 use mathlib.Core.List.{List, [], _∷_}
@@ -43,7 +43,7 @@ joinTests k a b out = badLevel maxMaskLevel k ∷ badLength (4 ^ k) a ∷ badLen
 abbrev pub joinCall : ℕ → List ℕ → List ℕ → List ℕ → Answer (Unit {0}) × List ℕ
 joinCall k a b out = lending (inOrder (joinTests k a b out) done) out (bytesOf (4 ^ k) (union (marked a) (marked b)))
 
--- ---- within: yes, or the lowest cell marked in the first mask and not in the second
+-- ---- within: whether the second mask marks all that the first does, and if not, the lowest cell that it leaves out
 
 pub data Inclusion : Type 0 where
   within : Inclusion

@@ -62,7 +62,7 @@ pub fn count(level: u32, mask: &[u8]) -> CountAnswer
     }
 }
 
-// The lowest cell that is marked in the first mask and not in the second, or the number past the last cell where there is none.
+// The lowest cell that mask a marks and mask b does not, or the number past the last cell where there is none.
 // A byte scan with a bit scan inside: a labelled break leaves both loops at the first cell of a that b lacks.
 fn first_lacking(a: &[u8], b: &[u8]) -> CellNumber
     requires { ⌜ (length (now a) ≤ 4 ^ maxMaskLevel) × (length (now b) ≡ length (now a)) ⌝ }

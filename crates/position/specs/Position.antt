@@ -16,7 +16,7 @@ use Rattle.position.specs.declared.CellAnswer.the-variants as cell-answe
 abbrev pub q : ℕ
 q = 90000000
 
--- latitude −q to q, longitude −2q to 2q−1
+-- the ranges: from pole to pole, and once around, with −2q for the meridian at which both ends meet
 abbrev pub latitudeOut : ℤ → Bool
 latitudeOut y = ltb q (natAbs y)
 
@@ -24,7 +24,7 @@ abbrev pub longitudeOut : ℤ → Bool
 longitudeOut (pos x) = leb (2 * q) x
 longitudeOut (negsuc x) = leb (2 * q) x
 
--- octants 0, 1, 2, 3 begin at longitudes 0, q, −2q, −q; 4 to 7 lie south of them
+-- the longitudes at which the northern octants begin; 4 to 7 lie south of them
 abbrev pub beginnings : List ℤ
 beginnings = pos 0 ∷ pos q ∷ negℤ (pos (2 * q)) ∷ negℤ (pos q) ∷ []
 
@@ -68,7 +68,7 @@ holder k p m =
     let b = scaledR k p m / (q * q) in
     cond (ltb (scaledT k p % (q * q) + scaledR k p m % (q * q)) (q * q)) (up a b) (down a b)
 
--- at p = q the cell is up(N−1,0)
+-- at a pole it is the octant's cell there, up(N−1,0)
 unfoldable pub triangleAt : ℕ → ℕ → ℕ → Triangle
 triangleAt k p m = cond (eqb p q) (up (2 ^ k - 1) 0) (holder k p m)
 

@@ -11,7 +11,7 @@ use Rattle.text.specs.Text.{decimal, refusalLine}
 use Rattle.ring_counter.specs.declared.CountsAnswer.{CountsAnswer}
 use Rattle.ring_counter.specs.declared.CountsAnswer.the-variants as counts-answer
 
--- it reads one byte of rings and one mask of level 5, 1,024 bytes, and nothing after
+-- the length of a sound input: the rings in one byte, then a mask of level 5, which is 1,024 bytes
 abbrev pub inputBytes : ℕ
 inputBytes = 1025
 

@@ -1,4 +1,4 @@
-// The ring counter (docs/RULES.md, 10): reads one byte of rings and one mask of level 5 from standard input, nothing after, and prints
+// The ring counter (docs/RULES.md, 10): reads the rings in one byte and then a mask of level 5 from standard input, nothing after, and prints
 // how many cells are marked before and after growing, or the number by which it is refused.
 ghost use Prim.Native.Nat.{ℕ, _≤_};
 ghost use mathlib.Core.Path.{_≡_};

@@ -1,5 +1,5 @@
 // Steps between cells along the eight codes: docs/RULES.md, 4.
-// Codes 0 to 7 are t, l, r, e, w, T, E, W. At level k an octant has N = 2^k rows.
+// A code is a number from 0 to 7 (t, l, r, e, w; T, E, W). At level k an octant has N = 2^k rows.
 ghost use mathlib.Core.List.{[], _∷_};
 ghost use mathlib.Core.Path.{_≡_};
 ghost use Prim.Native.Nat.{_-_, _≤_};
@@ -58,7 +58,7 @@ fn found_if(exists: bool, octant: u32, kind: Kind, row: u32, col: u32) -> Target
     Target::Nowhere
 }
 
-// The step from an up cell. East runs 0, 1, 2, 3, 0 and 4, 5, 6, 7, 4.
+// The step from an up cell, over the octant's edge too.
 fn from_up(level: u32, octant: u32, row: u32, col: u32, code: u8) -> Target
     requires { ⌜ (level ≤ maxLevel) × Occurs level (octant, up row col) ⌝ }
     ensures { λ r. ⌜ targetOf r ≡ step level (octant, up row col) code ⌝ }

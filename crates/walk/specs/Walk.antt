@@ -15,7 +15,7 @@ abbrev pub last : ℕ → List ℕ → ℕ
 last c [] = c
 last c (d ∷ ds) = last d ds
 
--- a walk of at most m steps from c to d: some list of at most m + 1 cells begins with c and ends with d, a step from each to the next
+-- a walk of at most m steps from c to d: a chain of no more than m + 1 cells from c to d, with a step from each to the next
 pub record Walk (R : ℕ → ℕ → Bool) (m c d : ℕ) : Type 0 where
   pub rest : List ℕ
   pub few : length (c ∷ rest) ≤ m + 1
