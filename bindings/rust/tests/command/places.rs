@@ -51,6 +51,13 @@ fn degrees_and_millionths() {
     folder.prints("cell --level 1 --latitude 22.5000000 --longitude +30.0", "0\n");
     folder.refused(&cell("90.000001", "0.0"), 2);
     folder.refused(&cell("0.0", "180.0"), 3);
+    // A position is in one unit: 30 beside 22.5 would lie at 30 millionths.
+    folder.wrong_line(
+        &cell("22.5", "30"),
+        "--longitude 30 is in millionths of a degree, and 22.5 is in degrees: write both the same \
+         way, as 30.0 for 30 degrees",
+    );
+    folder.wrong_line(&cell("0", "30.0"), "--latitude 0 is in millionths of a degree");
 }
 
 #[test]

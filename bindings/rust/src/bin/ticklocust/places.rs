@@ -65,6 +65,17 @@ fn dash(words: &Words) -> Result<(), Trouble> {
 fn cell_line(level: u32, names: [&str; 2], position: [&str; 2]) -> Result<String, Trouble> {
     let latitude = Latitude(microdegrees(names[0], position[0])?);
     let longitude = Longitude(microdegrees(names[1], position[1])?);
+    // 30 beside 22.5 is far more likely to mean 30 degrees than 30 millionths of one.
+    let is_degrees = |i: usize| position[i].contains('.');
+    if is_degrees(0) != is_degrees(1) {
+        let (degrees, other) = if is_degrees(0) { (0, 1) } else { (1, 0) };
+        let (name, value) = (names[other], position[other]);
+        return Err(Trouble::usage(format!(
+            "{name} {value} is in millionths of a degree, and {} is in degrees: write both the \
+             same way, as {value}.0 for {value} degrees",
+            position[degrees]
+        )));
+    }
     let cell = ticklocust::cell_at(level, latitude, longitude).map_err(refused(level))?;
     Ok(format!("{cell}\n"))
 }

@@ -6,8 +6,8 @@ usage: ticklocust cell --level K --latitude M --longitude M
 
 Prints the number of the cell at a position. The level is 0 to 14. A coordinate is degrees with a
 decimal point, exact in millionths, or whole millionths of a degree without one: 30.0 is 30 degrees,
-and 30 is 30 millionths. South and west are negative. The latitude is -90.0 to 90.0, the longitude
--180.0 to 179.999999.
+and 30 is 30 millionths. Both are written the same way. South and west are negative. The latitude is
+-90.0 to 90.0, the longitude -180.0 to 179.999999.
 
 With -, each line of standard input is a latitude and a longitude, and its cell is printed. The
 rules: docs/RULES.md, 2.
