@@ -12,9 +12,12 @@ use Rattle.cell.specs.Cell.{cells, maxLevel, badCell}
 use Rattle.code.specs.Step.{badStep, foundOr}
 use Rattle.border.specs.Stored.{valueOf, codeBytes, unpacked, stored, walked, codesBetween}
 
--- the most codes
+-- the most codes, and the most cells
 abbrev pub maxCodes : ℕ
 maxCodes = 4096
+
+abbrev pub maxCells : ℕ
+maxCells = maxCodes + 1
 
 -- 9: more than 4,096 codes
 abbrev pub badCount : ℕ → Test

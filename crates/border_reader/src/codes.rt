@@ -4,6 +4,7 @@ ghost use Prim.Native.Nat.{_^_, _/_, _%_, _≤_};
 ghost use lib.Dec.{ltb};
 ghost use lib.ListN.{length, getD};
 ghost use Rattle.border.specs.Stored.{valueOf, codeBytes};
+ghost use Rattle.border.specs.Border.{maxCodes};
 
 // A byte, 0 past the end.
 fn byte_at(bytes: &[u8], i: usize) -> u32
@@ -24,7 +25,7 @@ pub(crate) fn code_at(bytes: &[u8], i: usize) -> u8
 
 // Whether the bits after some codes are zeros, where the bytes are as many as the codes take: at most seven bits are left.
 pub(crate) fn is_padded(bytes: &[u8], count: usize) -> bool
-    requires { ⌜ (count ≤ 4096) × (length (now bytes) ≡ codeBytes count) ⌝ }
+    requires { ⌜ (count ≤ maxCodes) × (length (now bytes) ≡ codeBytes count) ⌝ }
     ensures { λ r. ⌜ r ≡ ltb (valueOf 256 (now (bytes .entry))) (8 ^ count) ⌝ }
 {
     if code_at(bytes, count) != 0 {

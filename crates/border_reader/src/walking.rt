@@ -12,12 +12,13 @@ ghost use Rattle.border_reader.specs.inside.Parts.{headerIs, readOn};
 use crate::BorderAnswer;
 use crate::codes;
 use crate::header::Header;
+use border::MAX_CELLS;
 use cell::CellNumber;
 use step::StepAnswer;
 
 // Walks along codes from a cell and keeps the cells that it meets. Answers whether every step is there.
 fn walk(level: u32, start: CellNumber, codes: &[u8], count: usize, met: &mut [CellNumber]) -> bool
-    requires { ⌜ (count ≤ 4096) × (count < length (now met)) ⌝ }
+    requires { ⌜ (count ≤ maxCodes) × (count < length (now met)) ⌝ }
     ensures there { λ r. ⌜ r ≡ found (walked level start (unpacked count (now (codes .entry)))) ⌝ }
     ensures cells { λ r. ⌜ (r ≡ true → take (count + 1) (now (met .exit)) ≡ foundOr [] (walked level start (unpacked count (now (codes .entry))))) ⌝ }
 {
@@ -71,7 +72,7 @@ pub(crate) fn read_codes(bytes: &[u8], header: Header, cells: &mut [CellNumber])
     if cells.len() <= count {
         return BorderAnswer::Refused(refusal::LENGTH);
     }
-    let mut met = [0u32; 4097];
+    let mut met = [0; MAX_CELLS];
     if !walk(header.level, header.start, codes, count, &mut met) {
         return BorderAnswer::Refused(refusal::STEP);
     }

@@ -5,6 +5,7 @@ mod parts;
 ghost use mathlib.Core.Path.{_≡_};
 ghost use Rattle.border.specs.Border.{writeBorder};
 ghost use Rattle.border_writer.specs.Writer.{saidLength};
+use border::MAX_CODES;
 use cell::CellNumber;
 
 pub enum LengthAnswer {
@@ -24,13 +25,13 @@ pub fn write(level: u32, cells: &[CellNumber], bytes: &mut [u8]) -> LengthAnswer
         return LengthAnswer::Refused(refusal::LENGTH);
     }
     let count = cells.len() - 1;
-    if (border::MAX_CODES as usize) < count {
+    if (MAX_CODES as usize) < count {
         return LengthAnswer::Refused(refusal::CODES);
     }
     if !parts::all_below(level, cells) {
         return LengthAnswer::Refused(refusal::CELL);
     }
-    let mut codes = [0u8; 4096];
+    let mut codes = [0u8; MAX_CODES as usize];
     if !parts::find_codes(level, cells, &mut codes) {
         return LengthAnswer::Refused(refusal::STEP);
     }

@@ -7,7 +7,7 @@ ghost use lib.ListN.{length, take, getD};
 ghost use Rattle.cell.specs.Cell.{cells as cellsOfLevel, maxLevel};
 ghost use Rattle.code.specs.Step.{foundOr};
 ghost use Rattle.border.specs.Stored.{found};
-ghost use Rattle.border.specs.Border.{anyFrom, codesOf};
+ghost use Rattle.border.specs.Border.{maxCodes, anyFrom, codesOf};
 ghost use Rattle.border_writer.specs.Writer.{saidLength};
 ghost use Rattle.border_writer.specs.inside.Parts.{writeOn};
 use crate::LengthAnswer;
@@ -51,7 +51,7 @@ pub(crate) fn find_codes(level: u32, cells: &[CellNumber], codes: &mut [u8]) -> 
 
 // Puts a border into a slice that has room for it.
 pub(crate) fn put(level: u32, start: CellNumber, codes: &[u8], out: &mut [u8]) -> LengthAnswer
-    requires { ⌜ (length (now codes) ≤ 4096) × ((i : ℕ) → getD (now codes) i 0 < 8) ⌝ }
+    requires { ⌜ (length (now codes) ≤ maxCodes) × ((i : ℕ) → getD (now codes) i 0 < 8) ⌝ }
     ensures { λ r. ⌜ (saidLength r, now (out .exit)) ≡ writeOn level start (now (codes .entry)) (now (out .entry)) ⌝ }
 {
     let count = codes.len() as u32;

@@ -3,7 +3,7 @@ use Prim.Native.Nat.{ℕ}
 use mathlib.Core.List.{List, [], _∷_, _++_}
 use lib.ListN.{take, replicate}
 use Rattle.refusal.specs.Answer.{Answer, given, refused}
-use Rattle.border.specs.Border.{readBorder}
+use Rattle.border.specs.Border.{maxCells, readBorder}
 use Rattle.text.specs.Text.{decimal, refusalLine}
 
 -- each number in decimal and a line end
@@ -26,7 +26,7 @@ listed (refused i, cells) = refusalLine i
 
 -- what is printed; a border has at most 4,097 cells, so the slice is never too short
 abbrev pub output : List ℕ → List ℕ
-output input = listed (readBorder input (replicate 4097 0))
+output input = listed (readBorder input (replicate maxCells 0))
 
 -- the first bytes of the input, which decide what is printed: one more than the longest border has
 abbrev pub frontBytes : ℕ

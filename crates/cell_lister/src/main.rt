@@ -5,7 +5,9 @@ ghost use mathlib.Core.Path.{_≡_};
 ghost use mathlib.Core.List.{List, _++_};
 ghost use lib.ListN.{length, take};
 ghost use Rattle.io.specs.Counts.{Counts};
+ghost use Rattle.border.specs.Border.{maxCells};
 ghost use Rattle.cell_lister.specs.CellLister.{levelLine, lines, output, frontBytes};
+use border::MAX_CELLS;
 use border_reader::BorderAnswer;
 use cell::CellNumber;
 
@@ -17,7 +19,7 @@ const FRONT: usize = 1545;
 
 // Puts a level and cells into a slice, a line each, and answers the length.
 fn put_cells(level: u32, cells: &[CellNumber], count: usize, out: &mut [u8]) -> usize
-    requires { ⌜ (count ≤ length (now cells)) × (count ≤ 4097) × (86064 ≤ length (now out)) ⌝ }
+    requires { ⌜ (count ≤ length (now cells)) × (count ≤ maxCells) × (86064 ≤ length (now out)) ⌝ }
     ensures fits { λ r. ⌜ Counts r (now (out .exit)) ⌝ }
     ensures text { λ r. ⌜ take r (now (out .exit)) ≡ levelLine level ++ lines (take count (now (cells .entry))) ⌝ }
 {
@@ -38,7 +40,7 @@ fn output_of(input: &[u8], out: &mut [u8; OUTPUT]) -> usize
     ensures fits { λ r. ⌜ Counts r (now (out .exit)) ⌝ }
     ensures text { λ r. ⌜ take r (now (out .exit)) ≡ output (now (input .entry)) ⌝ }
 {
-    let mut cells = [0u32; 4097];
+    let mut cells = [0; MAX_CELLS];
     match border_reader::read(input, &mut cells) {
         BorderAnswer::Read(level, count) => put_cells(level, &cells, count as usize, out),
         BorderAnswer::Refused(n) => text::append_refusal(out, 0, n),
