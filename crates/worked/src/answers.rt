@@ -14,7 +14,7 @@ use crate::words;
 use crate::words::WORDS;
 
 // The calls whose answers are of one form.
-fn short_call(call: usize, count: usize, kinds: &[u8], values: &[u32; WORDS]) -> Answer {
+fn short_call(call: usize, count: usize, kinds: &[u8; WORDS], values: &[u32; WORDS]) -> Answer {
     let level = values[0];
     let first = values[1];
     let second = values[2];
@@ -39,14 +39,9 @@ fn make(
     call: usize,
     style: u32,
     count: usize,
-    all: &[u8; WORDS],
+    kinds: &[u8; WORDS],
     values: &[u32; WORDS],
 ) -> usize {
-    let whole: &[u8] = all;
-    if whole.len() <= count {
-        return 0;
-    }
-    let kinds = &whole[0..count + 1];
     let level = values[0];
     let first = values[1];
     let rest = lists::cells_in(values, 2, count);
@@ -105,7 +100,7 @@ pub fn answer(
     if WORDS <= count {
         return 0;
     }
-    kinds[count] = b'~';
+    kinds[count] = b'|';
     if !shapes::fits(call, count + 1, &kinds, &values) {
         return 0;
     }

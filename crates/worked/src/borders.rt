@@ -13,6 +13,15 @@ const CELLS: usize = 4098;
 // The bytes of the longest border, and one more.
 const BYTES: usize = 1545;
 
+// The style of cells of another level.
+fn style_of(style: u32, level: u32) -> u32 {
+    if style == out::BY_NUMBER {
+        style
+    } else {
+        level
+    }
+}
+
 // Reads a stored border into a slice of so many cells.
 pub fn read(
     out: &mut [u8; LENGTH],
@@ -39,7 +48,12 @@ pub fn read(
             } else {
                 level
             };
-            out::cells(out, next, given, lists::cells_in(list, 0, size as usize))
+            out::cells(
+                out,
+                next,
+                style_of(style, level),
+                lists::cells_in(list, 0, size as usize),
+            )
         }
         BorderAnswer::Refused(n) => {
             out::form(out, 0, style, Answer(out::REFUSED, n as u32, 0, 0))

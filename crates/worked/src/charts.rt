@@ -21,7 +21,7 @@ fn of_reading(answer: ReadingAnswer) -> Answer {
 }
 
 // The reading of a cell, with the two lists of its chart.
-pub fn reading(kinds: &[u8], values: &[u32; WORDS]) -> Answer {
+pub fn reading(kinds: &[u8; WORDS], values: &[u32; WORDS]) -> Answer {
     let mut ages = [0u8; WORDS];
     let mut reals = [0.0f32; WORDS];
     lists::convert(values, &mut ages, &mut reals);
@@ -51,7 +51,7 @@ fn put_day(out: &mut [u8; LENGTH], answer: DayAnswer, temperatures: &[f32], ages
 }
 
 // The four lists of a day: new temperatures, clouded cells, old temperatures and ages.
-pub fn day(out: &mut [u8; LENGTH], kinds: &[u8], values: &[u32; WORDS]) -> usize {
+pub fn day(out: &mut [u8; LENGTH], kinds: &[u8; WORDS], values: &[u32; WORDS]) -> usize {
     let mut ages = [0u8; WORDS];
     let mut new = [0.0f32; WORDS];
     lists::convert(values, &mut ages, &mut new);

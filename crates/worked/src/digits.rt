@@ -53,59 +53,59 @@ fn touched(level: u32, cell: u32) -> u32 {
     }
 }
 
-// What a cell adds: 1 where it touches so many cells, or where rule and step agree; or the difference that a step makes.
+// 1 where there is a step, and four times the difference that it makes.
+fn difference(level: u32, cell: u32, code: u32) -> u32 {
+    let to = by_step(level, cell, code);
+    if to == NOWHERE {
+        return 0;
+    }
+    if cell < to {
+        return (to - cell) % 4096 * 4 + 1;
+    }
+    (cell - to) % 4096 * 4 + 1
+}
+
+// What a cell adds: 1 where it touches so many cells, or where rule and step agree; or the differences that t, l and r make.
 fn measure(call: usize, level: u32, cell: u32, number: u32) -> u32 {
     if call == 12 {
         return (touched(level, cell) == number) as u32;
     }
-    let to = by_step(level, cell, number);
     if call == 13 {
-        return (to == by_digits(level, cell, number)) as u32;
+        return (by_step(level, cell, number) == by_digits(level, cell, number)) as u32;
     }
-    if to == NOWHERE {
-        return 0;
-    }
-    if cell < to { to - cell } else { cell - to }
+    let t = difference(level, cell, 0) % 0x8000;
+    let l = difference(level, cell, 1) % 0x8000;
+    t + l + difference(level, cell, 2) % 0x8000
 }
 
-// The sum of what the cells add, and how many add something. Up to level 6 both stay far below 2^30.
+// What the cells add: how many times 1, and the sum of the differences. Up to level 6 both stay far below 2^28.
 fn over(call: usize, level: u32, cells: u32, number: u32) -> Answer {
     let mut sum: u32 = 0;
     let mut count: u32 = 0;
     for cell in 0..cells {
-        let more = measure(call, level, cell, number) % 0x8000;
-        sum = sum % 0x1000_0000 + more;
-        if 0 < more {
-            count = count % 0x1000_0000 + 1;
-        }
+        let more = measure(call, level, cell, number);
+        sum = sum % 0x1000_0000 + more / 4;
+        count = count % 0x1000_0000 + more % 4;
     }
-    Answer(out::NUMBER, count, sum, 0)
+    Answer(out::AVERAGE, sum, count, 0)
 }
 
 // The answers at a level up to 6: how many cells touch so many; at how many of all cells rule and step agree; and the sum of the differences over the
-// direct neighbours inside octant 0, by t, l and r, over how many steps, and their average.
+// direct neighbours inside octant 0, over how many steps, and their average.
 pub fn counted(call: usize, level: u32, number: u32) -> Answer {
     if 6 < level {
         return Answer(out::NONE, 0, 0, 0);
     }
-    if call < 14 {
-        let cells = 8 << (2 * level);
-        let all = over(call, level, cells, number);
-        return Answer(
-            if call == 12 { out::NUMBER } else { out::PART },
-            all.1,
-            cells,
-            0,
-        );
+    let cells: u32 = 8 << (2 * level);
+    if call == 12 {
+        return Answer(out::NUMBER, over(call, level, cells, number).2, 0, 0);
     }
-    let cells = 1 << (2 * level);
-    let t = over(call, level, cells, 0);
-    let l = over(call, level, cells, 1);
-    let r = over(call, level, cells, 2);
-    let count = t.1 % 0x1000_0000 + l.1 % 0x1000_0000 + r.1 % 0x1000_0000;
-    let sum = t.2 % 0x1000_0000 + l.2 % 0x1000_0000 + r.2 % 0x1000_0000;
-    if count == 0 {
-        return Answer(out::AVERAGE, 0, 0, 0);
+    if call == 13 {
+        return Answer(out::PART, over(call, level, cells, number).2, cells, 0);
     }
-    Answer(out::AVERAGE, sum, count, sum / count)
+    let all = over(call, level, cells / 8, 0);
+    if all.2 == 0 {
+        return all;
+    }
+    Answer(out::AVERAGE, all.1, all.2, all.1 / all.2)
 }

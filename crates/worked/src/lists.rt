@@ -1,5 +1,6 @@
 // Parts of the lists of a case's words. Where a list has no such part, they are all of it.
 use crate::temperature;
+use crate::words::WORDS;
 
 fn low_byte(n: u32) -> u8 {
     (n % 256) as u8
@@ -23,10 +24,10 @@ pub struct Part {
     pub next: usize,
 }
 
-// The list of words from a place to the next bar, or to the end of the case. The last kind is that of the end.
-pub fn part_at(kinds: &[u8], from: usize) -> Part {
-    let end = kinds.len();
-    if end <= from {
+// The list of words from a place to the next bar.
+pub fn part_at(kinds: &[u8; WORDS], from: usize) -> Part {
+    let all: &[u8] = kinds;
+    if all.len() <= from {
         return Part {
             from: 0,
             to: 0,
@@ -34,19 +35,21 @@ pub fn part_at(kinds: &[u8], from: usize) -> Part {
             next: 0,
         };
     }
-    let bar = bytes::scan::find(kinds, from, end - 1, b'|');
-    let mut long = false;
-    let mut to = bar;
+    let bar = bytes::scan::find(all, from, all.len(), b'|');
     if from < bar {
-        if kinds[bar - 1] == b'l' {
-            long = true;
-            to = bar - 1;
+        if all[bar - 1] == b'l' {
+            return Part {
+                from,
+                to: bar - 1,
+                long: true,
+                next: bar + 1,
+            };
         }
     }
     Part {
         from,
-        to,
-        long,
+        to: bar,
+        long: false,
         next: bar + 1,
     }
 }

@@ -118,54 +118,54 @@ fn make(
     }
 }
 
-// A call on one mask or two; of one, the second is empty. The answer is as it is, or the cells of the mask that was made, or how many they are.
-pub fn run(
-    out: &mut [u8; LENGTH],
-    call: usize,
-    style: u32,
-    kinds: &[u8],
-    values: &[u32; WORDS],
-) -> usize {
-    let level = values[0];
-    let first = lists::part_at(kinds, if call < 19 { 1 } else { 2 });
-    let second = lists::part_at(kinds, first.next);
-    let mut all = [0u8; BYTES];
-    let mut others = [0u8; BYTES];
-    let mut to = [0u8; BYTES];
-    let one = marked(&mut all, level, first, values);
-    let other = marked(&mut others, level, second, values);
-    if one.len() == 0 || other.len() == 0 {
-        return 0;
-    }
-    let mask = lists::front(&mut to, size_of(level, false));
-    let mut answer = Answer(out::CELLS, 0, 0, 0);
-    match call {
-        16 => {
-            answer = counted(level, one);
-        }
-        18 => {
-            answer = within(level, one, other);
-        }
-        _ => {
-            answer = made(make(call, level, values[1], one, other, mask), out::CELLS);
-        }
-    }
-    put_made(out, call, style, level, answer, mask)
-}
-
-fn put_made(
+// A call on its masks. The answer is as it is, or the cells of the mask that was made, or how many they are.
+fn run_on(
     out: &mut [u8; LENGTH],
     call: usize,
     style: u32,
     level: u32,
-    answer: Answer,
-    mask: &[u8],
+    number: u32,
+    one: &[u8],
+    other: &mut [u8],
+    mask: &mut [u8],
 ) -> usize {
-    if answer.0 != out::CELLS {
+    if call == 16 {
+        return out::form(out, 0, style, counted(level, one));
+    }
+    if call == 18 {
+        return out::form(out, 0, style, within(level, one, other));
+    }
+    let answer = made(make(call, level, number, one, other, mask), out::CELLS);
+    if answer.0 == out::REFUSED {
         return out::form(out, 0, style, answer);
     }
     if call == 22 {
         return out::form(out, 0, style, counted(level, mask));
     }
     put_mask(out, style, mask)
+}
+
+// A call on one mask or two; of one, the second is empty.
+pub fn run(
+    out: &mut [u8; LENGTH],
+    call: usize,
+    style: u32,
+    kinds: &[u8; WORDS],
+    values: &[u32; WORDS],
+) -> usize {
+    let mut all = [0u8; BYTES];
+    let mut others = [0u8; BYTES];
+    let mut to = [0u8; BYTES];
+    let first = lists::part_at(kinds, call / 19 + 1);
+    let second = lists::part_at(kinds, first.next);
+    let one = marked(&mut all, values[0], first, values);
+    let other = marked(&mut others, values[0], second, values);
+    if one.len() == 0 {
+        return 0;
+    }
+    if other.len() == 0 {
+        return 0;
+    }
+    let mask = lists::front(&mut to, size_of(values[0], false));
+    run_on(out, call, style, values[0], values[1], one, other, mask)
 }

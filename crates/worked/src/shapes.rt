@@ -17,34 +17,34 @@ pub const HEADING: usize = 28;
 const NONE: usize = 255;
 
 // A name, and the words after it: n a number, s a number with a sign, c a code, k up or down, l the word long where it stands there, o a number
-// where it stands there, N, C, B and R a list of numbers, codes, bytes and temperatures, | a bar, and ~ the end.
-const TABLE: [u8; 560] = *b"place   nn~         \
-    number  nnknn~      \
-    centroidnn~         \
-    cell    nss~        \
-    centre  nn~         \
-    near    nssN~       \
-    step    nnc~        \
-    code    nnn~        \
-    codes   nnN~        \
-    path    nnC~        \
-    touch   nnn~        \
-    touchingnno~        \
-    tally   nn~         \
-    rule    nc~         \
-    distancen~          \
-    mask    nn~         \
-    count   nNl~        \
-    join    nNl|Nl~     \
-    within  nNl|Nl~     \
-    grow    nnNl~       \
-    shrink  nnNl~       \
-    fill    nnNl~       \
-    filled  nnNl~       \
-    reading nnR|B~      \
-    day     nnR|Nl|R|B~ \
-    read    nB~         \
-    write   nnN~        \
+// where it stands there, N, C, B and R a list of numbers, codes, bytes and temperatures, | a bar or the end.
+const TABLE: [u8; 560] = *b"place   nn|         \
+    number  nnknn|      \
+    centroidnn|         \
+    cell    nss|        \
+    centre  nn|         \
+    near    nssN|       \
+    step    nnc|        \
+    code    nnn|        \
+    codes   nnN|        \
+    path    nnC|        \
+    touch   nnn|        \
+    touchingnno|        \
+    tally   nn|         \
+    rule    nc|         \
+    distancen|          \
+    mask    nn|         \
+    count   nNl|        \
+    join    nNl|Nl|     \
+    within  nNl|Nl|     \
+    grow    nnNl|       \
+    shrink  nnNl|       \
+    fill    nnNl|       \
+    filled  nnNl|       \
+    reading nnR|B|      \
+    day     nnR|Nl|R|B| \
+    read    nB|         \
+    write   nnN|        \
     list                ";
 
 // The row of a table that has a name.

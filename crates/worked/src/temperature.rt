@@ -66,16 +66,17 @@ pub fn read(text: &[u8], point: usize) -> u32 {
 // Stands for bits that are no whole eighths.
 const NO_EIGHTHS: u32 = 0xffff_ffff;
 
-// How many eighths a float is, by its bits but for the sign.
+// How many eighths a float, or the one next to it, is, by its bits but for the sign.
 fn eighths(size: u32) -> u32 {
-    if size == 0 {
+    let near = (size % SIGN + 1) / 4 * 4;
+    if near == 0 {
         return 0;
     }
-    let exponent = size >> 23;
-    if exponent < 124 || 147 < exponent {
+    let exponent = near >> 23;
+    if exponent < 124 || 147 < exponent || size % 4 == 2 {
         return NO_EIGHTHS;
     }
-    let digits = size % 0x80_0000 + 0x80_0000;
+    let digits = near % 0x80_0000 + 0x80_0000;
     let n = digits >> (147 - exponent);
     if n << (147 - exponent) == digits {
         n
@@ -87,20 +88,22 @@ fn eighths(size: u32) -> u32 {
 // The digits after the point, for eighths below one.
 const DECIMALS: [u32; 8] = [0, 125, 25, 375, 5, 625, 75, 875];
 
-// A float, by its bits but for the sign, with the marks for those next to eighths, away from zero and back. One that is near none is put by its bits.
-fn put_size(out: &mut [u8; LENGTH], at: usize, size: u32, away: u8, back: u8) -> usize {
-    let near = (size % SIGN + 1) / 4 * 4;
-    let n = eighths(near);
-    if n == NO_EIGHTHS || near + 1 < size {
+// The marks of the floats next to eighths, by what is left of their bits: away from zero for 1, back for 3; from zero up, and below zero.
+const MARKS: [u8; 8] = *b" + - - +";
+
+// A float, by its bits but for the sign. One that is near no eighths is put by its bits.
+fn put_size(out: &mut [u8; LENGTH], at: usize, size: u32, below: u32) -> usize {
+    let n = eighths(size);
+    if n == NO_EIGHTHS {
         return out::number(out, at, size);
     }
-    let whole = out::number(out, at, (n / 8));
+    let whole = out::number(out, at, n / 8);
     let point = out::text(out, whole, b".");
     let end = out::number(out, point, DECIMALS[(n % 8) as usize]);
-    if size == near {
+    if size % 4 == 0 {
         return end;
     }
-    out::text(out, end, &[if near < size { away } else { back }])
+    out::text(out, end, &[MARKS[(below % 2 * 4 + size % 4) as usize]])
 }
 
 // Puts a temperature into a slice, by its bits.
@@ -109,10 +112,10 @@ pub fn put(out: &mut [u8; LENGTH], at: usize, bits: u32) -> usize {
         NO_NUMBER => out::text(out, at, b"nan"),
         INFINITY => out::text(out, at, b"inf"),
         0xff80_0000 => out::text(out, at, b"-inf"),
-        0..=0x7fff_ffff => put_size(out, at, bits, b'+', b'-'),
+        0..=0x7fff_ffff => put_size(out, at, bits, 0),
         _ => {
             let next = out::text(out, at, b"-");
-            put_size(out, next, bits % SIGN, b'-', b'+')
+            put_size(out, next, bits % SIGN, 1)
         }
     }
 }

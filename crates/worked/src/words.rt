@@ -49,7 +49,7 @@ const VALUES: [u32; NAMES] = [
 ];
 
 // A word: its kind and its value. The kinds: % a number, $ one below zero, & the cell of an address, ! the letter of a code, # a temperature, by its
-// bits, k up (0) or down (1), l the word long, | a bar, L the word list, ~ the end of the case, and ? what is none of these.
+// bits, k up (0) or down (1), l the word long, | a bar or the end of the case, L the word list, and ? what is none of these.
 pub struct Word(pub u8, pub u32);
 
 // The value of the digits in a text; what is below them, as a point or a sign, is passed over.
