@@ -1,23 +1,13 @@
 // Readings and days of charts.
 use crate::lists;
-use crate::lists::Part;
 use crate::masks;
 use crate::out;
 use crate::out::Answer;
 use crate::out::LENGTH;
-use crate::out::Style;
 use crate::temperature;
 use crate::words::WORDS;
 use chart::ReadingAnswer;
 use day::DayAnswer;
-
-fn copy_reals(from: &[u32], to: &mut [f32]) {
-    let mut i = 0;
-    while i < from.len() && i < to.len() {
-        to[i] = temperature::of_bits(from[i]);
-        i += 1;
-    }
-}
 
 fn of_reading(answer: ReadingAnswer) -> Answer {
     match answer {
@@ -31,26 +21,20 @@ fn of_reading(answer: ReadingAnswer) -> Answer {
 }
 
 // The reading of a cell, with the two lists of its chart.
-pub fn reading(level: u32, kinds: &[u8], values: &[u32; WORDS]) -> Answer {
+pub fn reading(kinds: &[u8; WORDS], values: &[u32; WORDS]) -> Answer {
+    let mut ages = [0u8; WORDS];
+    let mut reals = [0.0f32; WORDS];
+    lists::convert(values, &mut ages, &mut reals);
     let first = lists::part_at(kinds, 2);
     let second = lists::part_at(kinds, first.next);
-    let mut temperatures = [0.0f32; WORDS];
-    let mut ages = [0u8; WORDS];
-    copy_reals(
-        lists::cells_in(values, first.from, first.to),
-        &mut temperatures,
-    );
-    lists::copy_bytes(lists::cells_in(values, second.from, second.to), &mut ages);
-    of_reading(chart::reading_of(
-        level,
-        lists::reals_in(&temperatures, 0, first.size),
-        lists::bytes_in(&ages, 0, second.size),
-        values[1],
-    ))
+    let temperatures = lists::reals_in(&mut reals, first.from, first.to);
+    let days = lists::bytes_in(&mut ages, second.from, second.to);
+    of_reading(chart::reading_of(values[0], temperatures, days, values[1]))
 }
 
-fn of_day(answer: DayAnswer) -> Answer {
-    match answer {
+// A day, and what it leaves of the two slices of the chart.
+fn put_day(out: &mut [u8; LENGTH], answer: DayAnswer, temperatures: &[f32], ages: &[u8]) -> usize {
+    let summed = match answer {
         DayAnswer::Summed(summary) => Answer(
             out::SUMMARY,
             summary.count,
@@ -58,75 +42,32 @@ fn of_day(answer: DayAnswer) -> Answer {
             temperature::bits_of(summary.warmest),
         ),
         DayAnswer::Refused(n) => Answer(out::REFUSED, n as u32, 0, 0),
-    }
-}
-
-// A day, and what it leaves of the two slices of the chart.
-fn put_chart(
-    out: &mut [u8; LENGTH],
-    style: Style,
-    answer: DayAnswer,
-    temperatures: &[f32],
-    ages: &[u8],
-) -> usize {
-    let at = out::put(out, 0, style, of_day(answer));
+    };
+    let at = out::form(out, 0, out::BY_NUMBER, summed);
     let first = out::text(out, at, b" /");
-    let next = temperature::put_all(out, first, temperatures);
+    let next = out::temperatures(out, first, temperatures);
     let second = out::text(out, next, b" /");
     out::numbers(out, second, ages)
 }
 
-// A day on the chart of the third and fourth lists, with the new temperatures and the cloud mask.
-fn day_on(
-    out: &mut [u8; LENGTH],
-    style: Style,
-    new: &[f32; WORDS],
-    size: usize,
-    clouds: &[u8],
-    third: Part,
-    fourth: Part,
-    values: &[u32; WORDS],
-) -> usize {
-    let mut temperatures = [0.0f32; WORDS];
-    let mut ages = [0u8; WORDS];
-    copy_reals(
-        lists::cells_in(values, third.from, third.to),
-        &mut temperatures,
-    );
-    lists::copy_bytes(lists::cells_in(values, fourth.from, fourth.to), &mut ages);
-    let left = lists::front_reals(&mut temperatures, third.size);
-    let days = lists::front(&mut ages, fourth.size);
-    let answer = day::day(
-        style.level,
-        values[1],
-        lists::reals_in(new, 0, size),
-        clouds,
-        left,
-        days,
-    );
-    put_chart(out, style, answer, left, days)
-}
-
 // The four lists of a day: new temperatures, clouded cells, old temperatures and ages.
-pub fn day(out: &mut [u8; LENGTH], style: Style, kinds: &[u8], values: &[u32; WORDS]) -> usize {
+pub fn day(out: &mut [u8; LENGTH], kinds: &[u8; WORDS], values: &[u32; WORDS]) -> usize {
+    let mut ages = [0u8; WORDS];
+    let mut new = [0.0f32; WORDS];
+    lists::convert(values, &mut ages, &mut new);
+    let mut old = new;
+    let mut all = [0u8; masks::BYTES];
     let first = lists::part_at(kinds, 2);
     let second = lists::part_at(kinds, first.next);
     let third = lists::part_at(kinds, second.next);
-    let mut new = [0.0f32; WORDS];
-    let mut all = [0u8; masks::BYTES];
-    copy_reals(lists::cells_in(values, first.from, first.to), &mut new);
-    let clouds = masks::marked(&mut all, style.level, second, values);
+    let fourth = lists::part_at(kinds, third.next);
+    let clouds = masks::marked(&mut all, values[0], second, values);
     if clouds.len() == 0 {
         return 0;
     }
-    day_on(
-        out,
-        style,
-        &new,
-        first.size,
-        clouds,
-        third,
-        lists::part_at(kinds, third.next),
-        values,
-    )
+    let fresh = lists::reals_in(&mut new, first.from, first.to);
+    let left = lists::reals_in(&mut old, third.from, third.to);
+    let days = lists::bytes_in(&mut ages, fourth.from, fourth.to);
+    let answer = day::day(values[0], values[1], fresh, clouds, left, days);
+    put_day(out, answer, left, days)
 }

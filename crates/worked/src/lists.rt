@@ -1,13 +1,57 @@
 // Parts of the lists of a case's words. Where a list has no such part, they are all of it.
+use crate::temperature;
+use crate::words::WORDS;
 
-pub fn bytes_in(list: &[u8], from: usize, to: usize) -> &[u8] {
-    if to < from {
-        return list;
+fn low_byte(n: u32) -> u8 {
+    (n % 256) as u8
+}
+
+// The words as bytes and as temperatures.
+pub fn convert(values: &[u32], bytes: &mut [u8], reals: &mut [f32]) {
+    let mut i = 0;
+    while i < values.len() && i < bytes.len() && i < reals.len() {
+        bytes[i] = low_byte(values[i]);
+        reals[i] = temperature::of_bits(values[i]);
+        i += 1;
     }
-    if list.len() < to {
-        return list;
+}
+
+// Where a list of words stands, whether the word long stood after it, and where the next list begins.
+pub struct Part {
+    pub from: usize,
+    pub to: usize,
+    pub long: bool,
+    pub next: usize,
+}
+
+// The list of words from a place to the next bar.
+pub fn part_at(kinds: &[u8; WORDS], from: usize) -> Part {
+    let all: &[u8] = kinds;
+    if all.len() <= from {
+        return Part {
+            from: 0,
+            to: 0,
+            long: false,
+            next: 0,
+        };
     }
-    &list[from..to]
+    let bar = bytes::scan::find(all, from, all.len(), b'|');
+    if from < bar {
+        if all[bar - 1] == b'l' {
+            return Part {
+                from,
+                to: bar - 1,
+                long: true,
+                next: bar + 1,
+            };
+        }
+    }
+    Part {
+        from,
+        to: bar,
+        long: false,
+        next: bar + 1,
+    }
 }
 
 pub fn cells_in(list: &[u32], from: usize, to: usize) -> &[u32] {
@@ -20,89 +64,30 @@ pub fn cells_in(list: &[u32], from: usize, to: usize) -> &[u32] {
     &list[from..to]
 }
 
-pub fn reals_in(list: &[f32], from: usize, to: usize) -> &[f32] {
+pub fn bytes_in(list: &mut [u8], from: usize, to: usize) -> &mut [u8] {
     if to < from {
         return list;
     }
     if list.len() < to {
         return list;
     }
-    &list[from..to]
+    &mut list[from..to]
 }
 
-// The first bytes, cells or temperatures of a list that is written to.
+pub fn reals_in(list: &mut [f32], from: usize, to: usize) -> &mut [f32] {
+    if to < from {
+        return list;
+    }
+    if list.len() < to {
+        return list;
+    }
+    &mut list[from..to]
+}
+
+// The first bytes of a list.
 pub fn front(list: &mut [u8], size: usize) -> &mut [u8] {
     if list.len() < size {
         return list;
     }
     &mut list[0..size]
-}
-
-pub fn front_cells(list: &mut [u32], size: usize) -> &mut [u32] {
-    if list.len() < size {
-        return list;
-    }
-    &mut list[0..size]
-}
-
-pub fn front_reals(list: &mut [f32], size: usize) -> &mut [f32] {
-    if list.len() < size {
-        return list;
-    }
-    &mut list[0..size]
-}
-
-pub fn low_byte(n: u32) -> u8 {
-    (n % 256) as u8
-}
-
-// Puts numbers below 256 into bytes.
-pub fn copy_bytes(from: &[u32], to: &mut [u8]) {
-    let mut i = 0;
-    while i < from.len() && i < to.len() {
-        to[i] = low_byte(from[i]);
-        i += 1;
-    }
-}
-
-// Where a list of words stands, how many they are, whether the word long stood after it, and where the next list begins.
-pub struct Part {
-    pub from: usize,
-    pub to: usize,
-    pub size: usize,
-    pub long: bool,
-    pub next: usize,
-}
-
-// The list of words from a place to the next bar, or to the end of the case. The last kind is that of the end.
-pub fn part_at(kinds: &[u8], from: usize) -> Part {
-    let end = kinds.len();
-    if end <= from {
-        return Part {
-            from: 0,
-            to: 0,
-            size: 0,
-            long: false,
-            next: 0,
-        };
-    }
-    let to = bytes::scan::find(kinds, from, end - 1, b'/');
-    if from < to {
-        if kinds[to - 1] == b'l' {
-            return Part {
-                from,
-                to: to - 1,
-                size: to - 1 - from,
-                long: true,
-                next: to + 1,
-            };
-        }
-    }
-    Part {
-        from,
-        to,
-        size: to - from,
-        long: false,
-        next: to + 1,
-    }
 }

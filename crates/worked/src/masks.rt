@@ -4,7 +4,6 @@ use crate::lists::Part;
 use crate::out;
 use crate::out::Answer;
 use crate::out::LENGTH;
-use crate::out::Style;
 use crate::words::WORDS;
 use mask::CountAnswer;
 use mask::WithinAnswer;
@@ -13,21 +12,14 @@ use refusal::Outcome;
 // The bytes of a mask of level 8, and one more.
 pub const BYTES: usize = 65537;
 
-// The bytes of a mask of a level; one where no mask has that level.
-fn size_of(level: u32) -> usize {
-    if mask::MAX_MASK_LEVEL < level {
-        return 1;
-    }
-    1 << (2 * level)
-}
-
-// One more where the word long stood there.
-fn size_with(level: u32, long: bool) -> usize {
-    if long {
-        size_of(level) % 0x2_0000 + 1
+// The bytes of a mask of a level; one where no mask has that level. One more where the word long stood there.
+fn size_of(level: u32, long: bool) -> usize {
+    let size = if mask::MAX_MASK_LEVEL < level {
+        1
     } else {
-        size_of(level)
-    }
+        1 << (2 * level)
+    };
+    if long { size % 0x2_0000 + 1 } else { size }
 }
 
 // The byte of a mask that has a cell's bit.
@@ -54,28 +46,21 @@ pub fn marked<'a>(
     part: Part,
     values: &[u32; WORDS],
 ) -> &'a mut [u8] {
-    let mask = lists::front(all, size_with(level, part.long));
+    let mask = lists::front(all, size_of(level, part.long));
     if mark_all(lists::cells_in(values, part.from, part.to), mask) {
         return mask;
     }
     &mut mask[0..0]
 }
 
-// A cell, where it is marked.
-fn put_marked(out: &mut [u8; LENGTH], at: usize, style: Style, mask: &[u8], cell: u32) -> usize {
-    if !bitset::is_marked(mask, cell) {
-        return at;
-    }
-    let next = out::space(out, at);
-    out::cell(out, next, style, cell)
-}
-
 // Puts the marked cells of a mask, which has at most 65,537 bytes, into a slice, or none.
-fn put_mask(out: &mut [u8; LENGTH], style: Style, mask: &[u8]) -> usize {
+fn put_mask(out: &mut [u8; LENGTH], style: u32, mask: &[u8]) -> usize {
     let cells = (mask.len() % 0x2_0000) as u32 * 8;
     let mut at = 0;
     for cell in 0..cells {
-        at = put_marked(out, at, style, mask, cell);
+        if bitset::is_marked(mask, cell) {
+            at = out::item(out, at, style, b'&', cell);
+        }
     }
     if at == 0 {
         return out::text(out, 0, b"none");
@@ -83,16 +68,22 @@ fn put_mask(out: &mut [u8; LENGTH], style: Style, mask: &[u8]) -> usize {
     at
 }
 
+// The answer of a call that makes a mask, or of one that says yes.
+fn made(outcome: Outcome, form: usize) -> Answer {
+    match outcome {
+        Outcome::Done => Answer(form, 0, 0, 0),
+        Outcome::Refused(n) => Answer(out::REFUSED, n as u32, 0, 0),
+    }
+}
+
 // Whether so many bytes are a mask of a level.
 pub fn mask(level: u32, bytes: u32) -> Answer {
     let all = [0u8; BYTES];
-    if BYTES < bytes as usize {
+    let size = bytes as usize;
+    if BYTES < size {
         return Answer(out::NONE, 0, 0, 0);
     }
-    match mask::is_mask(level, lists::bytes_in(&all, 0, bytes as usize)) {
-        Outcome::Done => Answer(out::YES, 0, 0, 0),
-        Outcome::Refused(n) => Answer(out::REFUSED, n as u32, 0, 0),
-    }
+    made(mask::is_mask(level, &all[0..size]), out::YES)
 }
 
 fn counted(level: u32, mask: &[u8]) -> Answer {
@@ -110,15 +101,7 @@ fn within(level: u32, one: &[u8], other: &[u8]) -> Answer {
     }
 }
 
-// The answer of a call that makes a mask.
-fn made(outcome: Outcome) -> Answer {
-    match outcome {
-        Outcome::Done => Answer(out::CELLS, 0, 0, 0),
-        Outcome::Refused(n) => Answer(out::REFUSED, n as u32, 0, 0),
-    }
-}
-
-// Makes a call by its row in the table of names. The second mask serves growing and shrinking as the one for work.
+// Makes a call that makes a mask. The second mask serves growing and shrinking as the one for work.
 fn make(
     call: usize,
     level: u32,
@@ -126,61 +109,63 @@ fn make(
     one: &[u8],
     other: &mut [u8],
     to: &mut [u8],
-) -> Answer {
+) -> Outcome {
     match call {
-        16 => counted(level, one),
-        17 => made(grow::grow(level, number, one, to, other)),
-        18 => made(grow::shrink(level, number, one, to, other)),
-        19 => made(mask::join(level, one, other, to)),
-        20 => within(level, one, other),
-        _ => made(fill::fill(level, one, number, to)),
+        17 => mask::join(level, one, other, to),
+        19 => grow::grow(level, number, one, to, other),
+        20 => grow::shrink(level, number, one, to, other),
+        _ => fill::fill(level, one, number, to),
     }
 }
 
-// The answer of a call: as it is, or the cells of the mask that it made, or, for a filled region that is counted, how many they are.
-fn put_made(
+// A call on its masks. The answer is as it is, or the cells of the mask that was made, or how many they are.
+fn run_on(
     out: &mut [u8; LENGTH],
     call: usize,
-    style: Style,
-    answer: Answer,
-    mask: &[u8],
+    style: u32,
+    level: u32,
+    number: u32,
+    one: &[u8],
+    other: &mut [u8],
+    mask: &mut [u8],
 ) -> usize {
-    if answer.0 != out::CELLS {
-        return out::put(out, 0, style, answer);
+    if call == 16 {
+        return out::form(out, 0, style, counted(level, one));
+    }
+    if call == 18 {
+        return out::form(out, 0, style, within(level, one, other));
+    }
+    let answer = made(make(call, level, number, one, other, mask), out::CELLS);
+    if answer.0 == out::REFUSED {
+        return out::form(out, 0, style, answer);
     }
     if call == 22 {
-        return out::put(out, 0, style, counted(style.level, mask));
+        return out::form(out, 0, style, counted(level, mask));
     }
     put_mask(out, style, mask)
-}
-
-// Where the first list of a call's words begins.
-fn list_of(call: usize) -> usize {
-    match call {
-        16 | 19 | 20 => 1,
-        _ => 2,
-    }
 }
 
 // A call on one mask or two; of one, the second is empty.
 pub fn run(
     out: &mut [u8; LENGTH],
     call: usize,
-    style: Style,
-    kinds: &[u8],
+    style: u32,
+    kinds: &[u8; WORDS],
     values: &[u32; WORDS],
 ) -> usize {
-    let first = lists::part_at(kinds, list_of(call));
-    let second = lists::part_at(kinds, first.next);
     let mut all = [0u8; BYTES];
     let mut others = [0u8; BYTES];
     let mut to = [0u8; BYTES];
-    let one = marked(&mut all, style.level, first, values);
-    let other = marked(&mut others, style.level, second, values);
-    if one.len() == 0 || other.len() == 0 {
+    let first = lists::part_at(kinds, call / 19 + 1);
+    let second = lists::part_at(kinds, first.next);
+    let one = marked(&mut all, values[0], first, values);
+    let other = marked(&mut others, values[0], second, values);
+    if one.len() == 0 {
         return 0;
     }
-    let made = lists::front(&mut to, size_of(style.level));
-    let answer = make(call, style.level, values[1], one, other, made);
-    put_made(out, call, style, answer, made)
+    if other.len() == 0 {
+        return 0;
+    }
+    let mask = lists::front(&mut to, size_of(values[0], false));
+    run_on(out, call, style, values[0], values[1], one, other, mask)
 }

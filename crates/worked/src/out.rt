@@ -1,18 +1,13 @@
-// Answers as text, put into a slice piece by piece.
-use crate::marks;
+// Answers as text, put into a slice piece by piece. A piece that does not fit is left out.
 use crate::temperature;
 
-// The bytes of the longest answer.
+// The bytes of the slice that an answer is put into, and of its longest piece. An answer that leaves room for such a piece is whole.
 pub const LENGTH: usize = 65536;
 
-// A place past every slice: where a piece did not fit, so that no shortened answer is taken for a whole one.
-pub const NO_ROOM: usize = 0x100_0000;
+pub const PIECE: usize = 32;
 
-// How cells are answered: by number, or as addresses of a level.
-pub struct Style {
-    pub level: u32,
-    pub addresses: bool,
-}
+// The style of an answer is the level of the addresses that its cells are given as, or this where they are given by number.
+pub const BY_NUMBER: u32 = 15;
 
 // An answer: its form, and the values that stand in it.
 pub struct Answer(pub usize, pub u32, pub u32, pub u32);
@@ -69,8 +64,7 @@ pub const CELLS: usize = 22;
 // The length of a row.
 const FORM: usize = 28;
 
-// Up to the first bar a row is the text of an answer, in which each of the characters ! to & stands for a value: % for a number, $ for one with its
-// sign, & for a cell, ! for a code, and # for a temperature, by its bits.
+// The text of each answer, in which the characters ! to & stand for values, and bars for nothing.
 const FORMS: [u8; 588] = *b"refused %|||||||||||||||||||\
     &|||||||||||||||||||||||||||\
     %|||||||||||||||||||||||||||\
@@ -96,155 +90,115 @@ const FORMS: [u8; 588] = *b"refused %|||||||||||||||||||\
 // The letters of the codes 0 to 7.
 const LETTERS: [u8; 8] = *b"tlrewTEW";
 
-// The bit that stands for a minus sign.
-const SIGN: u32 = 0x8000_0000;
+// Values from here on stand for numbers below zero, from -1 down.
+pub const BELOW: u32 = 0x8000_0000;
 
 pub fn text(out: &mut [u8; LENGTH], at: usize, piece: &[u8]) -> usize {
-    if piece.len() == 0 {
-        return at;
-    }
-    let next = text::append(out, at, piece);
-    if next == at {
-        return NO_ROOM;
-    }
-    next
+    text::append(out, at, piece)
 }
 
 pub fn number(out: &mut [u8; LENGTH], at: usize, n: u32) -> usize {
-    let next = text::append_decimal(out, at, n as u64);
-    if next == at {
-        return NO_ROOM;
-    }
-    next
+    text::append_decimal(out, at, n as u64)
 }
 
-// A number's size.
-fn size_of(n: i32) -> u32 {
-    if n < 0 { (-1 - n) as u32 + 1 } else { n as u32 }
-}
-
-// A number as a value of an answer: the highest bit stands for the minus sign.
+// A number as a value.
 pub fn with_sign(n: i32) -> u32 {
     if n < 0 {
-        size_of(n) % SIGN + SIGN
+        (-1 - n) as u32 + BELOW
     } else {
-        size_of(n)
+        n as u32
     }
 }
 
-// A number by such a value.
-pub fn signed(out: &mut [u8; LENGTH], at: usize, value: u32) -> usize {
-    if value < SIGN {
+fn signed(out: &mut [u8; LENGTH], at: usize, value: u32) -> usize {
+    if value < BELOW {
         return number(out, at, value);
     }
     let next = text(out, at, b"-");
-    number(out, next, value - SIGN)
+    number(out, next, (value - BELOW) % BELOW + 1)
 }
 
-// A code by its letter.
-fn code(out: &mut [u8; LENGTH], at: usize, value: u32) -> usize {
-    if value < 8 {
-        return text(out, at, &[LETTERS[value as usize]]);
+// A cell: by number, or an @ and its address.
+fn cell(out: &mut [u8; LENGTH], from: usize, style: u32, cell: u32) -> usize {
+    if BY_NUMBER <= style {
+        return number(out, from, cell);
     }
-    number(out, at, value)
-}
-
-fn value_at(values: &[u32], i: usize) -> u32 {
-    if i < values.len() {
-        return values[i];
+    let mut left = style;
+    let first = text(out, from, b"@");
+    let mut at = number(out, first, ((cell >> (2 * left)) % 8));
+    while 0 < left {
+        left -= 1;
+        at = number(out, at, ((cell >> (2 * left)) % 4));
     }
-    0
+    at
 }
 
-// A character of a form: a value where it is one of ! to &, nothing where it is a bar, or itself.
-fn form_character(
-    out: &mut [u8; LENGTH],
-    at: usize,
-    style: Style,
-    character: u8,
-    value: u32,
-) -> usize {
+// A value by its character: % a number, $ one with its sign, & a cell, ! the letter of a code, and # a temperature, by its bits. Nothing for a bar,
+// and else the character.
+pub fn put(out: &mut [u8; LENGTH], at: usize, style: u32, character: u8, value: u32) -> usize {
     match character {
         b'%' => number(out, at, value),
         b'$' => signed(out, at, value),
         b'&' => cell(out, at, style, value),
-        b'!' => code(out, at, value),
+        b'!' => text(out, at, &[LETTERS[(value % 8) as usize]]),
         b'#' => temperature::put(out, at, value),
         b'|' => at,
         _ => text(out, at, &[character]),
     }
 }
 
-fn form(out: &mut [u8; LENGTH], from: usize, style: Style, format: &[u8], values: &[u32]) -> usize {
+// A space and a value.
+pub fn item(out: &mut [u8; LENGTH], at: usize, style: u32, character: u8, value: u32) -> usize {
+    let next = text(out, at, b" ");
+    put(out, next, style, character, value)
+}
+
+// An answer; nothing where it has no form.
+pub fn form(out: &mut [u8; LENGTH], from: usize, style: u32, answer: Answer) -> usize {
+    let row = answer.0;
+    if NONE <= row {
+        return 0;
+    }
+    let values = [answer.1, answer.2, answer.3, 0];
     let mut at = from;
-    let mut used = 0;
-    for i in 0..format.len() {
-        let character = format[i];
-        at = form_character(out, at, style, character, value_at(values, used));
+    let mut used: usize = 0;
+    for i in 0..FORM {
+        let character = FORMS[FORM * row + i];
+        at = put(out, at, style, character, values[used % 4]);
         if b' ' < character && character <= b'&' {
-            used = used % 16 + 1;
+            used = used % 4 + 1;
         }
     }
     at
 }
 
-// Puts an answer into a slice; nothing where it is none.
-pub fn put(out: &mut [u8; LENGTH], at: usize, style: Style, answer: Answer) -> usize {
-    let row = answer.0;
-    if NONE <= row {
-        return 0;
+// The cells of a list.
+pub fn cells(out: &mut [u8; LENGTH], from: usize, style: u32, list: &[u32]) -> usize {
+    let mut at = from;
+    for i in 0..list.len() {
+        at = item(out, at, style, b'&', list[i]);
     }
-    let from = FORM * row;
-    form(
-        out,
-        at,
-        style,
-        &FORMS[from..from + FORM],
-        &[answer.1, answer.2, answer.3],
-    )
-}
-
-pub fn refused(out: &mut [u8; LENGTH], at: usize, n: u8) -> usize {
-    let next = text(out, at, b"refused ");
-    number(out, next, n as u32)
-}
-
-pub fn cell(out: &mut [u8; LENGTH], at: usize, style: Style, n: u32) -> usize {
-    if style.addresses {
-        marks::put(out, at, style.level, n)
-    } else {
-        number(out, at, n)
-    }
-}
-
-// A space, but for the first piece.
-pub fn space(out: &mut [u8; LENGTH], at: usize) -> usize {
-    if at == 0 {
-        return 0;
-    }
-    text(out, at, b" ")
+    at
 }
 
 fn wide(n: u8) -> u32 {
     n as u32
 }
 
-// The cells of a list.
-pub fn cells(out: &mut [u8; LENGTH], from: usize, style: Style, list: &[u32]) -> usize {
-    let mut at = from;
-    for i in 0..list.len() {
-        let next = space(out, at);
-        at = cell(out, next, style, list[i]);
-    }
-    at
-}
-
 // The numbers of a list of bytes.
 pub fn numbers(out: &mut [u8; LENGTH], from: usize, list: &[u8]) -> usize {
     let mut at = from;
     for i in 0..list.len() {
-        let next = space(out, at);
-        at = number(out, next, wide(list[i]));
+        at = item(out, at, BY_NUMBER, b'%', wide(list[i]));
+    }
+    at
+}
+
+// The temperatures of a list.
+pub fn temperatures(out: &mut [u8; LENGTH], from: usize, list: &[f32]) -> usize {
+    let mut at = from;
+    for i in 0..list.len() {
+        at = item(out, at, BY_NUMBER, b'#', temperature::bits_of(list[i]));
     }
     at
 }

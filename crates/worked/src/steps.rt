@@ -3,14 +3,13 @@ use crate::lists;
 use crate::out;
 use crate::out::Answer;
 use crate::out::LENGTH;
-use crate::out::Style;
 use corner::TouchAnswer;
 use step::CodeAnswer;
 use step::StepAnswer;
 use touch::ListAnswer;
 
-pub fn step(level: u32, cell: u32, code: u8) -> Answer {
-    match step::step_along(level, cell, code) {
+pub fn step(level: u32, cell: u32, code: u32) -> Answer {
+    match step::step_along(level, cell, (code % 256) as u8) {
         StepAnswer::To(next) => Answer(out::CELL, next, 0, 0),
         StepAnswer::Refused(n) => Answer(out::REFUSED, n as u32, 0, 0),
     }
@@ -25,23 +24,23 @@ pub fn code(level: u32, from: u32, to: u32) -> Answer {
 }
 
 // The codes from each cell of a list to the next.
-pub fn codes(out: &mut [u8; LENGTH], style: Style, list: &[u32]) -> usize {
+pub fn codes(out: &mut [u8; LENGTH], level: u32, list: &[u32]) -> usize {
     let mut at = 0;
     for i in 1..list.len() {
-        let next = out::space(out, at);
-        at = out::put(out, next, style, code(style.level, list[i - 1], list[i]));
+        let next = out::text(out, at, b" ");
+        at = out::form(out, next, out::BY_NUMBER, code(level, list[i - 1], list[i]));
     }
     at
 }
 
 // The cells that steps lead to, one after the other, to the first that is refused.
-pub fn path(out: &mut [u8; LENGTH], style: Style, start: u32, list: &[u32]) -> usize {
+pub fn path(out: &mut [u8; LENGTH], style: u32, level: u32, start: u32, list: &[u32]) -> usize {
     let mut at = 0;
     let mut cell = start;
     for i in 0..list.len() {
-        let next = out::space(out, at);
-        let answer = step(style.level, cell, lists::low_byte(list[i]));
-        at = out::put(out, next, style, answer);
+        let next = out::text(out, at, b" ");
+        let answer = step(level, cell, list[i]);
+        at = out::form(out, next, style, answer);
         if answer.0 != out::CELL {
             return at;
         }
@@ -58,32 +57,18 @@ pub fn touch(level: u32, one: u32, other: u32) -> Answer {
     }
 }
 
-fn put_touching(out: &mut [u8; LENGTH], style: Style, cell: u32, list: &mut [u32]) -> usize {
-    match touch::touching_cells(style.level, cell, list) {
-        ListAnswer::Count(count) => out::cells(
-            out,
-            0,
-            style,
-            lists::cells_in(list, 0, count as usize),
-        ),
-        ListAnswer::Refused(n) => out::refused(out, 0, n),
-    }
-}
-
-// The length of the slice that touching cells are put into: 12 where the case does not say.
-fn room_of(given: &[u32]) -> u32 {
-    if given.len() == 0 {
-        return 12;
-    }
-    given[0]
-}
-
 // The cells that touch a cell, found in a slice of a given length up to 16.
-pub fn touching(out: &mut [u8; LENGTH], style: Style, cell: u32, given: &[u32]) -> usize {
+pub fn touching(out: &mut [u8; LENGTH], style: u32, level: u32, cell: u32, room: u32) -> usize {
     let mut list = [0u32; 16];
-    let room = room_of(given) as usize;
-    if 16 < room {
+    let size = room as usize;
+    if 16 < size {
         return 0;
     }
-    put_touching(out, style, cell, lists::front_cells(&mut list, room))
+    let part = &mut list[0..size];
+    match touch::touching_cells(level, cell, part) {
+        ListAnswer::Count(count) => {
+            out::cells(out, 0, style, lists::cells_in(part, 0, count as usize))
+        }
+        ListAnswer::Refused(n) => { out::form(out, 0, style, Answer(out::REFUSED, n as u32, 0, 0)) }
+    }
 }

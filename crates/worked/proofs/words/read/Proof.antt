@@ -1,15 +1,15 @@
--- `words::read` is safe and ends. The invariant: `at` is at most one past the end of the text. The measure is what is left of it. Assumes nothing.
-use Prim.Native.Nat.{_+_, _≤_, _-_}
+-- `words::read` is safe and ends. The measure is what is left of the text. Assumes nothing.
+use Prim.Native.Nat.{_+_, _-_}
 use lib.ListN.{length}
 use borrow.Author.Needs.{needs}
 use Rattle.worked.proofs.words.read.Statement.{statement}
 use Rattle.worked.proofs.words.read.Tie as tie
 
 abbrev Inv-loop : tie.InvT-loop
-Inv-loop text from kinds₀ values₀ count₀ at₀ kinds values count at = at ≤ length text + 1
+Inv-loop text start from kinds₀ values₀ count₀ at₀ kinds values count at = Unit {0}
 
 abbrev μ-loop : tie.MeasureT-loop
-μ-loop text from kinds₀ values₀ count₀ at₀ kinds values count at = length text + 1 - at
+μ-loop text start from kinds₀ values₀ count₀ at₀ kinds values count at = length text + 1 - at
 
 pub read-spec : {M : Type 1} → statement M
 read-spec =
@@ -17,5 +17,7 @@ read-spec =
     (tie.spec
     Inv-loop
     μ-loop
-    (λ c. search needs) (λ c κs. search needs) (λ c. search needs) (λ c. search needs) (λ c. search needs) (λ c κs. search needs)
-    (λ c κs. search needs) (λ c. search needs) (λ c. search needs) (λ c. search needs) (λ c. search needs))
+    (λ c. search needs) (λ c κs. search needs) (λ c κs. search needs) (λ c. search needs) (λ c. search needs) (λ c. search needs)
+    (λ c κs. search needs) (λ c. search needs) (λ c. search needs) (λ c. search needs) (λ c. search needs) (λ c κs. search needs)
+    (λ c κs. search needs) (λ c. search needs) (λ c. search needs) (λ c. search needs) (λ c κs. search needs) (λ c κs. search needs)
+    (λ c. search needs) (λ c. search needs) (λ c. search needs) (λ c. search needs))

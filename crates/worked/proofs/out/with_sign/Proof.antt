@@ -1,4 +1,4 @@
--- `out::size_of` is safe. A negative number is turned by −1 − n, which is one less than its size and fits even at the least number of 32 bits.
+-- `out::with_sign` is safe. A negative number is turned by −1 − n, which fits even at the least number of 32 bits.
 -- Assumes nothing.
 use Prim.Native.Nat.{_^_, _<_}
 use mathlib.Core.Path.{_≡_}
@@ -9,8 +9,8 @@ use mir.Syntax.{w32}
 use mir.Val.{toZ, ofZ}
 use borrow.Author.Needs.{needs}
 use Rattle.position.proofs.Signed.{same-number, cast-number, turned, size-positive}
-use Rattle.worked.proofs.out.size_of.Statement.{statement}
-use Rattle.worked.proofs.out.size_of.Tie as tie
+use Rattle.worked.proofs.out.with_sign.Statement.{statement}
+use Rattle.worked.proofs.out.with_sign.Tie as tie
 
 -- the number as the code reads it fits
 fits : (c : tie.Start) → mag (toZ w32 (ofZ w32 (c .args .n))) < 2 ^ 31
@@ -32,5 +32,5 @@ add-result c = rw (below c) (omega (arith, fits (c .before)))
 cast-result-2 : tie.Need-cast-result-2
 cast-result-2 c = let y = toZ w32 (ofZ w32 (c .before .args .n)) in rw (size-positive y (c .if1 .left)) (tt, omega (arith, natAbs-le y (fits (c .before))))
 
-pub size-of-spec : {M : Type 1} → statement M
-size-of-spec = tie.close (tie.spec sub-result cast-below add-result cast-result-2 (λ c. search needs) (λ c. search needs))
+pub with-sign-spec : {M : Type 1} → statement M
+with-sign-spec = tie.close (tie.spec sub-result cast-below add-result cast-result-2 (λ c. search needs) (λ c. search needs))
