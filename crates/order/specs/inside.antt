@@ -1,0 +1,2 @@
+-- What private functions claim.
+pub mod Ranks
