@@ -2,14 +2,14 @@
 // is in crate `touch`. Touching is vertex adjacency.
 
 // One axis of the unit cube that a cell spans: its corners lie at base or base + 1 from zero, on one side of it.
-#[derive(Drop)]
+#[derive(Clone, Copy)]
 pub struct Side {
     pub negative: bool,
     pub base: u32,
 }
 
 // The unit cube that a cell spans, by its three axes.
-#[derive(Drop)]
+#[derive(Clone, Copy)]
 pub struct Cube {
     pub x: Side,
     pub y: Side,

@@ -8,7 +8,7 @@ use cell::CellNumber;
 use varint::ReadAnswer;
 
 // The three, and the place after them.
-#[derive(Drop)]
+#[derive(Clone, Copy)]
 pub(crate) struct Header {
     pub(crate) level: u32,
     pub(crate) start: CellNumber,

@@ -1,4 +1,6 @@
 // Cells and their numbers: docs/RULES.md, 1.
+#![tactic(auto)]
+
 mod bits;
 
 ghost use Rattle.std.specs.Prelude.{◌≡◌, ◌≤◌, ltb};
@@ -15,14 +17,14 @@ pub const MAX_LEVEL: u32 = 14;
 pub const NO_CELL: CellNumber = 4294967295;
 
 // Whether a cell's triangle points to its pole or to the equator.
-#[derive(Drop)]
+#[derive(Clone, Copy)]
 pub enum Kind {
     Up,
     Down,
 }
 
 // Where a cell lies: its octant, and there its row, counted from the equator to the pole, and its column, counted from the west edge.
-#[derive(Drop)]
+#[derive(Clone, Copy)]
 pub struct Place {
     pub octant: u32,
     pub kind: Kind,

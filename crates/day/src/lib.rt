@@ -15,7 +15,7 @@ use refusal::Outcome;
 const GAP_AGE: u8 = 255;
 
 // How many cells are fresh, and the lowest and the highest of their temperatures.
-#[derive(Drop)]
+#[derive(Clone, Copy)]
 pub struct Summary {
     pub count: u32,
     pub coldest: f32,
@@ -29,7 +29,7 @@ pub enum DayAnswer {
 }
 
 // A cell after a day.
-#[derive(Drop)]
+#[derive(Clone, Copy)]
 struct CellAfter {
     temperature: f32,
     age: u8,

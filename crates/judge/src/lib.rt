@@ -5,7 +5,7 @@ ghost use Rattle.judge.specs.Judge.{Judged};
 pub const MOST: u32 = 1000000;
 
 // Cases that gave the expected answer, and all cases.
-#[derive(Drop)]
+#[derive(Clone, Copy)]
 pub struct Score {
     pub right: u32,
     pub all: u32,

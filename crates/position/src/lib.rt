@@ -8,11 +8,11 @@ ghost use Rattle.position.specs.Position.{cell_call, said_cell};
 use cell::{CellNumber, NumberAnswer};
 
 // Whole millionths of a degree, north of the equator; in the south they are negative.
-#[derive(Drop)]
+#[derive(Clone, Copy)]
 pub struct Latitude(pub i32);
 
 // Whole millionths of a degree, east of the meridian of Greenwich; in the west they are negative.
-#[derive(Drop)]
+#[derive(Clone, Copy)]
 pub struct Longitude(pub i32);
 
 // What is answered for a position: its cell, or a refusal.

@@ -18,7 +18,7 @@ fn rows_of(level: u32) -> u64
 }
 
 // A fraction's whole part, and what is left over of it in units of 1/q².
-#[derive(Drop)]
+#[derive(Clone, Copy)]
 struct Share {
     whole: u64,
     rest: u64,

@@ -7,7 +7,7 @@ use crate::bits;
 use rows::Rows;
 
 // A group of pairs: the two sides of each meridian, octants beside each other at a pole, octants across it, the two sides of the equator.
-#[derive(Drop)]
+#[derive(Clone, Copy)]
 pub(crate) enum Edge {
     Meridian,
     Beside,

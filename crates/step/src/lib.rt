@@ -27,7 +27,7 @@ pub enum CodeAnswer {
 }
 
 // Where a step leads.
-#[derive(Drop)]
+#[derive(Clone, Copy)]
 enum Target {
     At(Place),
     Nowhere,

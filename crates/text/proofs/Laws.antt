@@ -20,22 +20,12 @@ unfolding appended
 append_none out t at h = rw (lt-leb (at + length t) (length out) h)
 
 -- what fits is put by a copy into the part that begins at its place
-pub append_some : (out t p : List ℕ) (at r : ℕ) → at + length t ≤ length out → r ≡ length t →
-    p ≡ take (length t) t ++ drop (length t) (mid_of at (length out - at) out) →
-    (put_mid at (length out - at) out p, at + r) ≡ appended out at t
+pub append_some : (out t p : List ℕ) (at : ℕ) → at + length t ≤ length out → p ≡ t →
+    (put_mid at (at + length t - at) out p, at + length t) ≡ appended out at t
 unfolding appended
-append_some out t p at r h e f = rw (le-leb (at + length t) (length out) h, e) (ap (λ (l : List ℕ). (take at out ++ l, at + length t)) whole)
-  where
-    nothing : post_of at (length out - at) out ≡ []
-    nothing = Post-is at (length out) out (omega arith) ∙ drop-length out
-
-    middle : mid_of at (length out - at) out ≡ drop at out
-    middle = take_all (length out - at) (drop at out) (simp length-drop (omega arith))
-
-    whole : p ++ post_of at (length out - at) out ≡ t ++ drop (at + length t) out
-    whole =
-        ap₂ ◌++◌ (f ∙ ap₂ ◌++◌ (take-length t) (ap (drop (length t)) middle ∙ drop-drop (length t) at out)) nothing
-        ∙ append-nil (t ++ drop (at + length t) out)
+append_some out t p at h e =
+    rw (le-leb (at + length t) (length out) h)
+    (ap (λ (l : List ℕ). (take at out ++ l, at + length t)) (ap₂ ◌++◌ e (Post-is at (at + length t) out (omega arith))))
 
 -- ---- text put piece after piece
 

@@ -1,4 +1,6 @@
 // Printed text, put into a slice piece by piece.
+#![tactic(auto)]
+
 ghost use Rattle.std.specs.Prelude.{◌≡◌};
 ghost use Rattle.text.specs.Text.{decimal, appended, refusal_line};
 
@@ -12,8 +14,9 @@ pub fn append(out: &mut [u8], at: usize, text: &[u8]) -> usize
     if out.len() - at < text.len() {
         return at;
     }
-    let n = bytes::copy(text, &mut out[at..]);
-    at + n
+    let next = at + text.len();
+    out[at..next].copy_from_slice(text);
+    next
 }
 
 // Puts a number's decimal digits into a slice in the same way.

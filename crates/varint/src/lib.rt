@@ -1,4 +1,6 @@
 // The numbers of a stored border: docs/RULES.md, 8. Groups of seven bits, low group first.
+#![tactic(auto)]
+
 ghost use Rattle.std.specs.Prelude.{◌≡◌, ◌+◌, ◌≤◌, length, drop};
 ghost use Rattle.std.proofs.lemmas.List.Edits.{sets};
 ghost use Rattle.varint.specs.Varint.{numeral, valued, read_call, write_call, said_read, said_write};

@@ -1,1 +1,2 @@
 // Steps between cells, taken one after another: the definitions are in specs/, what follows from them in proofs/; there are no calls.
+#![tactic(auto)]
