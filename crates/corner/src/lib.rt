@@ -1,4 +1,6 @@
 // Whether two cells touch: docs/RULES.md, 5. Touching is vertex adjacency: two different cells have a corner in common.
+#![tactic(auto)]
+
 ghost use Rattle.std.specs.Prelude.{◌≡◌, ◌<◌};
 ghost use Rattle.corner.specs.Corner.{coordinate, same_number, same_point, among, common, said_touch, touch_call};
 

@@ -1,4 +1,6 @@
 // Masks of cells: docs/RULES.md, 6.
+#![tactic(auto)]
+
 ghost use Rattle.std.specs.Prelude.{◌≡◌, true, false, ℕ, ◌*◌, ◌^◌, ◌≤◌, ◌<◌, length};
 ghost use Rattle.refusal.specs.Answer.{done, in_order};
 ghost use Rattle.refusal.specs.Outcome.{said_outcome};

@@ -1,4 +1,6 @@
 // The cell at a position: docs/RULES.md, 2.
+#![tactic(auto)]
+
 mod angle;
 mod place;
 
