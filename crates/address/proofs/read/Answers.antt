@@ -9,14 +9,7 @@ use lib.ListN.{length, get_or, drop}
 use lib.Seq.{drop-cons, drop-length}
 use Rattle.address.specs.Address.{with_digit, number_from}
 use borrow.Author.Rules.{rules}
-use Rattle.address.proofs.read.Statement.{statement}
-use Rattle.address.proofs.read.Tie as tie
-
-abbrev invariant-loop : tie.invariant-loop
-invariant-loop address n₀ i₀ n i = (i ≤ length address) × (number_from n (drop i address) ≡ number_from 0 address)
-
-abbrev decreases-loop : tie.decreases-loop
-decreases-loop address n₀ i₀ n i = length address - i
+use Rattle.address.proofs.read.Goals as goal
 
 -- one character more is read
 one_more : (s : List ℕ) (n i : ℕ) → i < length s → number_from n (drop i s) ≡ number_from 0 s →
@@ -29,23 +22,12 @@ all_read : (s : List ℕ) (n i : ℕ) → i ≡ length s → number_from n (drop
 unfolding number_from
 all_read s n i h e = sym (ap (number_from n) (ap (λ (j : ℕ). drop j s) h ∙ drop-length s)) ∙ e
 
-loop-holds : tie.Need-loop-init invariant-loop decreases-loop
-loop-holds c = (search rules, refl)
+pub loop-i-init : goal.loop-i-init
+loop-i-init c = (search rules, refl)
 
-loop-again : tie.Need-loop-preserved invariant-loop decreases-loop
-loop-again c =
-    (omega arith, one_more c.before.before.before.args.address.now _ c.before.before.loop.i (omega arith) c.before.before.loop.invariant.1)
+pub loop-i-preserved : goal.loop-i-preserved
+loop-i-preserved c =
+    (omega arith, one_more c.args.address.now _ c.loop-i.i (omega arith) c.loop-i.invariant.1)
 
-returns : tie.Need-returns invariant-loop decreases-loop
-returns c = all_read c.before.before.args.address.now _ c.before.loop.i (omega arith) c.before.loop.invariant.1
-
-pub read_spec : {M : Type 1} → statement M
-read_spec =
-    tie.close
-    (tie.spec
-    invariant-loop
-    decreases-loop
-    loop-holds
-    (λ c. search rules) (λ c. search rules) (λ c. search rules) (λ c. search rules) (λ c. search rules) (λ c. search rules)
-    loop-again
-    returns)
+pub returns : goal.returns
+returns c = all_read c.args.address.now _ c.loop-i.i (omega arith) c.loop-i.invariant.1
