@@ -1,4 +1,6 @@
 // Reads stored borders: docs/RULES.md, 8.
+#![tactic(auto)]
+
 mod codes;
 mod header;
 mod walking;

@@ -1,4 +1,6 @@
 // The centre of a cell: docs/RULES.md, 3.
+#![tactic(auto)]
+
 mod angle;
 mod thirds;
 

@@ -37,15 +37,6 @@ inside_less k o (suc m) g h = let e : suc m - 1 ≡ m = omega arith in rw (e, le
 pub inside_test : (k n m : ℕ) → k ≤ max_level → m ≡ suc n → leb m (2 ^ k) ≡ ltb n (1 * 2 ^ k % 2 ^ 32)
 inside_test k n m h e = rw (rows_shifted k h, e)
 
--- what a match knows of a number that met none of its first n arms
-abbrev pub Missed : ℕ → ℕ → Type 0
-Missed c zero = Unit {0}
-Missed c (suc n) = Missed c n × ¬ (c ≡ n)
-
-pub missed : (c n : ℕ) → Missed c n → n ≤ c
-missed c zero m = omega arith
-missed c (suc n) m = let h = missed c n m.0 in let e = m.1 in omega arith
-
 -- a down cell has none of the steps T, E, W
 pub down_stays : (k o a b c : ℕ) → 4 < c → step k (o, down a b) c ≡ none
 unfolding step steps

@@ -1,5 +1,7 @@
 // Steps between cells along the eight codes: docs/RULES.md, 4.
 // A code is a number from 0 to 7 (t, l, r, e, w; T, E, W). At level k an octant has N = 2^k rows.
+#![tactic(auto)]
+
 ghost use Rattle.std.specs.Prelude.{[], ◌∷◌, ◌≡◌, ◌-◌, ◌≤◌};
 ghost use Rattle.refusal.specs.Answer.{in_order};
 ghost use Rattle.cell.specs.Cell.{Occurs, place_of, triangle_of, number, up, down, max_level};

@@ -1,7 +1,6 @@
 -- `octant_of` meets its contract: the northern octant is that of the longitude counted from the west, and the sign of the latitude says whether 4 is
 -- added.
 -- Assumes nothing.
-use borrow.Author.Rules.{rules}
 use mathlib.Core.Path.{◌≡◌}
 use mir.Syntax.{w32}
 use mir.Val.{to_z, of_z}

@@ -1,6 +1,5 @@
 -- `holder_of` meets its contract: row and column are the whole parts of T and R, and the test is the definition's own.
 -- Assumes nothing.
-use borrow.Author.Rules.{rules}
 use Prim.Native.Nat.{◌+◌, ◌*◌, ◌-◌, ◌%◌, ◌^◌, ◌<◌, ◌≤◌}
 use native.Mathlib.Nat.{mul-le-mul}
 use native.Mathlib.Omega.{arith}
@@ -35,3 +34,19 @@ overflow_mul-m c = omega (arith, (room c).1)
 
 pub overflow_cast-row : goal.overflow_cast-row
 overflow_cast-row c = omega (arith, (room (goal.at.overflow_cast-row c).After-rows_of-n).0)
+
+pub returns-then-high-r-lt-SQUARE : goal.returns-then-high-r-lt-SQUARE
+returns-then-high-r-lt-SQUARE c =
+    let s = c.share_of-r.ensures in
+    let a = c.args in
+    let n = c.rows_of-n in
+    let rest = n.result * a.p % q * q + n.result * (a.m * (q - a.p)) % (q * q) in
+    rw (holder-at a.level a.p a.m n.result n.ensures.0, s.whole, lt-ltb rest (q * q) (omega (arith, c.if-high-r-lt-SQUARE.true, s.rest)))
+
+pub returns-else-high-r-lt-SQUARE : goal.returns-else-high-r-lt-SQUARE
+returns-else-high-r-lt-SQUARE c =
+    let s = c.share_of-r.ensures in
+    let a = c.args in
+    let n = c.rows_of-n in
+    let rest = n.result * a.p % q * q + n.result * (a.m * (q - a.p)) % (q * q) in
+    rw (holder-at a.level a.p a.m n.result n.ensures.0, s.whole, le-ltb rest (q * q) (omega (arith, c.if-high-r-lt-SQUARE.false, s.rest)))

@@ -1,5 +1,4 @@
 -- `place_at` meets its contract: the pole is its own case, as in the definition. Assumes nothing.
-use borrow.Author.Rules.{rules}
 use borrow.Author.Tests.{eq-eqb, ne_eqb}
 use Rattle.position.specs.Position.{q, triangle_at}
 use Rattle.position.proofs.place.place_at.Goals as goal

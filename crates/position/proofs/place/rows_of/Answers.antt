@@ -1,5 +1,4 @@
 -- `rows_of` meets its contract: up to the highest level the shift loses nothing. Assumes nothing.
-use borrow.Author.Rules.{rules}
 use Rattle.position.proofs.Laws.{rows_shifted}
 use Rattle.position.proofs.place.rows_of.Goals as goal
 
