@@ -1,0 +1,17 @@
+use Prim.Native.Nat.{◌-◌, ◌≤◌}
+use mathlib.Core.Bool.{true}
+use mathlib.Core.Path.{sym, ◌∙◌}
+use native.Mathlib.Omega.{arith}
+use borrow.Author.Rules.{rules}
+use borrow.Author.Tests.{not-true, not-false}
+use Rattle.flood.specs.Flood.{Added}
+use Rattle.flood.specs.inside.Turns.{Into, Turn}
+use Rattle.flood.proofs.Turns.{added_none, added_more, turn_none, turn_more}
+use Rattle.flood.proofs.Joining.{full_closed}
+use Rattle.flood.proofs.words.settle_word.Given as goal
+
+abbrev pub invariant-loop-n : goal.invariant-loop-n
+invariant-loop-n l = (l.n ≤ 64) × Added (Into l.at) l.open_up l.open_down l.initial.up l.initial.down l.up l.down
+
+abbrev pub decreases-loop-n : goal.decreases-loop-n
+decreases-loop-n l = 64 - l.n
