@@ -1,5 +1,5 @@
 /* Ticklocust for C99 and C++: triangular cells of the globe, borders, masks, and charts of sea
-   temperature in degrees Celsius. Link with libticklocust.a, which `rt staticlib ticklocust` builds
+   temperature in degrees Celsius. Link with libticklocust.a, which `tools/archive` builds
    (x86-64 Linux).
 
    Every function returns 0 when the call is accepted, else the number of its refusal. Results are

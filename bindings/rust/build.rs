@@ -1,5 +1,5 @@
 //! Links with libticklocust.a from the folder that TICKLOCUST_LIB names; without it, from the
-//! repository's target/staticlib, where `rt staticlib ticklocust` writes it.
+//! repository's target/staticlib, where `tools/archive` writes it.
 
 use std::path::PathBuf;
 
@@ -12,7 +12,7 @@ fn main() {
     let archive = folder.join("libticklocust.a");
     if !archive.is_file() {
         eprintln!(
-            "{} is missing: `rt staticlib ticklocust` in the repository writes target/staticlib; \
+            "{} is missing: `tools/archive` in the repository writes target/staticlib; \
              or let TICKLOCUST_LIB name the archive's folder by its whole path",
             archive.display()
         );

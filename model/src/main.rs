@@ -72,7 +72,7 @@ fn look_for_programs(folder: &str) {
     for (name, _) in compare::programs::TASKS {
         let path = std::path::Path::new(folder).join(name);
         if !path.exists() {
-            eprintln!("{} is not there: `rt check` builds it", path.display());
+            eprintln!("{} is not there: tools/programs builds it", path.display());
             std::process::exit(2);
         }
     }

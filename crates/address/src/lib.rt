@@ -1,4 +1,6 @@
 // Addresses as the source documents write them: the octant's digit and then one digit a level.
+#![tactic(auto)]
+
 ghost use Rattle.std.specs.Prelude.{◌≡◌};
 ghost use Rattle.address.specs.Address.{number_from};
 

@@ -1,5 +1,6 @@
 // Which cells touch a cell and which lie at a point, and how many they are: the definitions are in specs/, what follows from them in proofs/; the call
 // is in crate `touch`. Touching is vertex adjacency.
+#![tactic(auto)]
 
 // One axis of the unit cube that a cell spans: its corners lie at base or base + 1 from zero, on one side of it.
 #[derive(Clone, Copy)]

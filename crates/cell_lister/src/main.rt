@@ -15,6 +15,10 @@ const OUTPUT: usize = 86064;
 // The bytes that are read: one more than the longest border has, so that a longer input is seen to be longer.
 const FRONT: usize = 1545;
 
+// The descriptors of standard input and output.
+const STDIN: i32 = 0;
+const STDOUT: i32 = 1;
+
 // Puts a level and cells into a slice, a line each, and answers the length.
 fn put_cells(level: u32, cells: &[CellNumber], count: usize, out: &mut [u8]) -> usize
     requires { (count ≤ length cells.now) × (count ≤ max_cells) × (86064 ≤ length out.old) }
@@ -56,8 +60,8 @@ fn output_of_front(front: &[u8], n: usize, out: &mut [u8; OUTPUT]) -> usize
 
 fn main() {
     let mut front = [0u8; FRONT];
-    let n = io::read_full(libc::STDIN_FILENO, &mut front);
+    let n = io::read_full(STDIN, &mut front);
     let mut out = [0u8; OUTPUT];
     let k = output_of_front(&front, n, &mut out);
-    io::write_all(libc::STDOUT_FILENO, &out[..k]);
+    io::write_all(STDOUT, &out[..k]);
 }

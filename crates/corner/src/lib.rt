@@ -21,7 +21,9 @@ fn same_at(p: [i32; 3], q: [i32; 3], i: usize) -> bool
     requires { i < 3 }
     ensures { result ≡ same_number (coordinate p i) (coordinate q i) }
 {
-    p[i] == q[i]
+    let x = p[i];
+    let y = q[i];
+    x == y
 }
 
 // Whether two points are the same.

@@ -1,5 +1,7 @@
 // The cells that touch a cell, found by cubes. A cell spans a unit cube of the whole numbers; the 27 ways to that cube and its neighbours are tried in
 // turn. Crate `touch` calls this for cells at their octant's edges.
+#![tactic(auto)]
+
 ghost use Rattle.std.specs.Prelude.{◌≡◌, ℕ, ◌+◌, ◌<◌, ◌≤◌, ◌^◌, length};
 ghost use Rattle.std.proofs.Math.Option.{some};
 ghost use Rattle.cell.specs.Cell.{place, max_level, cells};

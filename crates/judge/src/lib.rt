@@ -1,4 +1,6 @@
 // Whether a case gave the expected answer, and how many did.
+#![tactic(auto)]
+
 ghost use Rattle.judge.specs.Judge.{Judged};
 
 // The most cases that are counted.

@@ -33,12 +33,12 @@ pub(crate) fn put_block(level: u32, block: CellNumber, word: u64, up: &mut Rows,
             let cells = square::scatter(word);
             match kind {
                 Kind::Up => {
-                    words::join_square(up, slot, square::in_rows_lem(cells.up_in_up));
-                    words::join_square(down, slot, square::in_rows_lem(cells.down_in_up));
+                    words::join_square(up, slot, square::in_rows(cells.up_in_up));
+                    words::join_square(down, slot, square::in_rows(cells.down_in_up));
                 }
                 Kind::Down => {
-                    words::join_square(up, slot, square::in_rows_lem(cells.up_in_down));
-                    words::join_square(down, slot, square::in_rows_lem(cells.down_in_down));
+                    words::join_square(up, slot, square::in_rows(cells.up_in_down));
+                    words::join_square(down, slot, square::in_rows(cells.down_in_down));
                 }
             }
         }

@@ -1,4 +1,6 @@
 // Masks as rows of bits, and back: up cells in one set of rows, down cells in another.
+#![tactic(auto)]
+
 ghost use Rattle.std.specs.Prelude.{◌≡◌, false, cond, ℕ, ◌/◌, ◌^◌, ◌≤◌, ◌<◌, length};
 ghost use Rattle.bitset.specs.Bits.{marked, bytes_of};
 ghost use Rattle.cell.specs.Cell.{Triangle};

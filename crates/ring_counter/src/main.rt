@@ -19,6 +19,10 @@ const INPUT: usize = 1025;
 // The bytes that are read: one more than the input may have, so that a longer one is seen to be longer.
 const FRONT: usize = 1026;
 
+// The descriptors of standard input and output.
+const STDIN: i32 = 0;
+const STDOUT: i32 = 1;
+
 // The cells marked before growing and after it, or the number by which the input is refused.
 #[derive(Drop)]
 enum CountsAnswer {
@@ -57,7 +61,7 @@ fn outcome_of(input: &[u8]) -> CountsAnswer
         return CountsAnswer::Refused(refusal::LENGTH);
     }
     let mut mask = [0u8; 1024];
-    bytes::copy(&input[1..], &mut mask);
+    mask.copy_from_slice(&input[1..]);
     grown_counts(input[0], &mask)
 }
 
@@ -96,8 +100,8 @@ fn output_of_front(front: &[u8], n: usize, out: &mut [u8; 64]) -> usize
 
 fn main() {
     let mut front = [0u8; FRONT];
-    let n = io::read_full(libc::STDIN_FILENO, &mut front);
+    let n = io::read_full(STDIN, &mut front);
     let mut out = [0u8; 64];
     let k = output_of_front(&front, n, &mut out);
-    io::write_all(libc::STDOUT_FILENO, &out[..k]);
+    io::write_all(STDOUT, &out[..k]);
 }

@@ -1,4 +1,6 @@
 // Rows of bits, in which the cells and the points of a level are grown and filled: how they lie in words, and one bit, one word at a time.
+#![tactic(auto)]
+
 ghost use Rattle.std.specs.Prelude.{◌≡◌, ◌&&◌, ◌||◌, ℕ, ltb, eqb, get_or};
 ghost use Rattle.rows.specs.Rows.{lit, spot_count, spot_in};
 ghost use Rattle.code.specs.Step.{east};

@@ -1,5 +1,7 @@
 // Blocks of 64 cells as squares of eight rows of eight bits, and back. Between the two a square stands in quarters: its quarters follow one another,
 // and so do the quarters of each of them.
+#![tactic(auto)]
+
 ghost use Rattle.std.specs.Prelude.{◌≡◌, ℕ, ◌<◌};
 ghost use Rattle.bitset.specs.Bits.{bit};
 ghost use Rattle.square.specs.Square.{quarter_of, squares, Scattered, Gathered};
@@ -14,7 +16,7 @@ pub struct Squares {
 }
 
 // A square in quarters, in rows.
-pub fn in_rows_lem(square: u64) -> u64
+pub fn in_rows(square: u64) -> u64
     ensures { (p : ℕ) → p < 64 → bit result p ≡ bit square (quarter_of p) }
 {
     let x = (square & 0xFF0000FFFF0000FF)

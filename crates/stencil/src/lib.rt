@@ -1,4 +1,6 @@
 // Shifts and unions of whole rows of bits: the points of cells, the cells of points, and the points near points, word by word.
+#![tactic(auto)]
+
 ghost use Rattle.std.specs.Prelude.{◌≡◌, ◌&&◌, cond, ℕ, leb};
 ghost use Rattle.rows.specs.Rows.{lit, inside};
 ghost use Rattle.stencil.specs.Stencil.{points_of, up_of, down_of, near_of, in_rows, in_cell_rows};

@@ -1,4 +1,5 @@
 // From the text of a case to the text of its answer.
+use crate::scan;
 use crate::out::{Answer, LENGTH};
 use crate::words::WORDS;
 use crate::{borders, cells, charts, digits, lists, masks, out, shapes, steps, words};
@@ -85,7 +86,7 @@ pub fn answer(
 ) -> usize {
     let mut kinds = [0u8; WORDS];
     let mut values = [0u32; WORDS];
-    let name = bytes::scan::find(case, 0, case.len(), b' ');
+    let name = scan::find(case, 0, case.len(), b' ');
     let count = read_words(case, name, list, &mut kinds, &mut values);
     if WORDS <= count {
         return 0;
@@ -94,7 +95,7 @@ pub fn answer(
     if !shapes::fits(call, count + 1, &kinds, &values) {
         return 0;
     }
-    let mark = bytes::scan::find(expected, 0, expected.len(), b'@');
+    let mark = scan::find(expected, 0, expected.len(), b'@');
     let style = if mark < expected.len() {
         values[0] % 15
     } else {

@@ -1,4 +1,5 @@
 // Parts of the lists of a case's words. Where a list has no such part, they are all of it.
+use crate::scan;
 use crate::temperature;
 use crate::words::WORDS;
 
@@ -36,7 +37,7 @@ pub fn part_at(kinds: &[u8; WORDS], from: usize) -> Part {
             next: 0,
         };
     }
-    let bar = bytes::scan::find(all, from, all.len(), b'|');
+    let bar = scan::find(all, from, all.len(), b'|');
     if from < bar {
         if all[bar - 1] == b'l' {
             return Part {

@@ -8,6 +8,7 @@ mod digits;
 mod lists;
 mod masks;
 mod out;
+mod scan;
 mod shapes;
 mod steps;
 mod temperature;
@@ -19,9 +20,13 @@ use out::LENGTH;
 // The longest input, in bytes; a longer one is refused.
 const INPUT: usize = 262144;
 
+// The descriptors of standard input and output.
+const STDIN: i32 = 0;
+const STDOUT: i32 = 1;
+
 // The one function that writes text. A failed write is not reported.
 fn print(text: &[u8]) {
-    io::write_all(libc::STDOUT_FILENO, text);
+    io::write_all(STDOUT, text);
 }
 
 // A line of the input without the spaces, and the carriage return, at its end.
@@ -86,7 +91,7 @@ fn run_case(score: Score, case: &[u8], expected: &[u8], buffer: &[u8; LENGTH], n
 // character.
 fn run_line(score: Score, call: usize, line: &[u8], list: &[u8]) -> Score {
     let mut buffer = [0u8; LENGTH];
-    let equals = bytes::scan::find(line, 0, line.len(), b'=');
+    let equals = scan::find(line, 0, line.len(), b'=');
     let case = trimmed(&line[0..equals]);
     let expected = after(line, equals + 1);
     let n = answers::answer(&mut buffer, call, case, trimmed(list), expected);
@@ -100,7 +105,7 @@ fn run_all(input: &[u8]) -> Score {
     let mut to = 0;
     let mut at = 0;
     while at < input.len() {
-        let end = bytes::scan::find(input, at, input.len(), b'\n');
+        let end = scan::find(input, at, input.len(), b'\n');
         let line = trimmed(&input[at..end]);
         let call = shapes::call_of(line);
         if call == shapes::LIST || call == shapes::HEADING {
@@ -120,14 +125,14 @@ fn run_all(input: &[u8]) -> Score {
 
 fn main() {
     let mut input = [0u8; INPUT];
-    let n = io::read_full(libc::STDIN_FILENO, &mut input);
+    let n = io::read_full(STDIN, &mut input);
     if n == INPUT {
         print(b"WRONG the input is too long\n0 of 1\n");
         return;
     }
     let score = run_all(&input[0..n]);
-    io::print_decimal(libc::STDOUT_FILENO, score.right as u64);
+    io::print_decimal(STDOUT, score.right as u64);
     print(b" of ");
-    io::print_decimal(libc::STDOUT_FILENO, score.all as u64);
+    io::print_decimal(STDOUT, score.all as u64);
     print(b"\n");
 }

@@ -1,4 +1,5 @@
 // The names of the calls, and which words each takes.
+use crate::scan;
 use crate::out;
 use crate::words::WORDS;
 
@@ -52,7 +53,7 @@ pub fn row_of(table: &[u8], name: &[u8]) -> usize {
     let mut row = 0;
     let mut at = 0;
     while at + ROW <= table.len() {
-        let end = bytes::scan::find(table, at, at + 8, b' ');
+        let end = scan::find(table, at, at + 8, b' ');
         if check::same(&table[at..end], name) {
             return row;
         }
@@ -70,7 +71,7 @@ pub fn call_of(line: &[u8]) -> usize {
     if line[0] == b'#' {
         return HEADING;
     }
-    let end = bytes::scan::find(line, 0, line.len(), b' ');
+    let end = scan::find(line, 0, line.len(), b' ');
     row_of(&TABLE, &line[0..end])
 }
 

@@ -1,4 +1,5 @@
 // The words of a case, read into two lists: their kinds and their values.
+use crate::scan;
 use crate::out::LENGTH;
 use crate::shapes::ROW;
 use crate::{out, shapes, temperature};
@@ -68,7 +69,7 @@ fn guess(text: &[u8]) -> Word {
     if text.len() == 0 {
         return Word(b'?', 0);
     }
-    let point = bytes::scan::find(text, 0, text.len(), b'.');
+    let point = scan::find(text, 0, text.len(), b'.');
     if point < text.len() {
         return Word(b'#', temperature::read(text, point));
     }
@@ -144,8 +145,8 @@ pub fn read(
     let mut count = from;
     let mut at = start;
     while at < text.len() {
-        let end = bytes::scan::find(text, at, text.len(), b' ');
-        let star = bytes::scan::find(text, at, end, b'*');
+        let end = scan::find(text, at, text.len(), b' ');
+        let star = scan::find(text, at, end, b'*');
         if star < end {
             let times = times_of(&text[at..star]);
             count = store(read_word(&text[star + 1..end]), times, count, kinds, values);

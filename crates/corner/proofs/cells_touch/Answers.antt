@@ -12,7 +12,7 @@ use Rattle.cell.specs.Cell.{Place, place, place_of, said_place, place_call, max_
 use Rattle.cell.proofs.Answers.{Given, given_place}
 use Rattle.corner.specs.Corner.{corners, common, touches, touch_call}
 use Rattle.corner.proofs.cells_touch.Goals as goal
-use Rattle.corner.proofs.cells_touch.Goals.{After-have_common, In-At-2, In-At-place_of, Start}
+use Rattle.corner.proofs.cells_touch.Goals.{After-have_common}
 
 -- ---- the call's answers by what `place_of` said of the two cells
 module _ (k a b : ℕ) (p : Place) (A : Given k a p) where
@@ -38,48 +38,44 @@ module _ (k a b : ℕ) (p : Place) (A : Given k a p) where
     unfolding touches
     by-corners t n e = both-given t (rw (ne_eqb a b n, A.at, B.at) e)
 
--- ---- the needs
--- the state at the entry
-abbrev entry : (c : In-At-2) → Start
-entry c = (goal.at.In-At-2 c).Start
-
--- where the first cell's place was given
-abbrev one_given : (c : In-At-place_of) → In-At-2
-one_given c = (goal.at.In-At-place_of c).In-At-2
-
--- the first cell is one of the level, and so is the second
-first : (c : In-At-2) → Given (entry c).args.level (entry c).args.a (place_of c.in-At.p)
-first c = given_place _ _ _ (sym (ap said_place c.in-At.is) ∙ c.place_of.ensures)
-
-second : (c : In-At-place_of) → Given (entry (one_given c)).args.level (entry (one_given c)).args.b (place_of c.in-At-place_of.q)
-second c = given_place _ _ _ (sym (ap said_place c.in-At-place_of.is) ∙ c.place_of-in-At.ensures)
-
-pub returns-then-a-b : goal.returns-then-a-b
-returns-then-a-b c =
-    let d = one_given (goal.at.returns-then-a-b c).In-At-place_of in
-    let a = (entry d).args in
-    itself a.level a.a a.b _ (first d) _ (second (goal.at.returns-then-a-b c).In-At-place_of) c.if-a-b.true
-
-pub corners_of-requires : goal.corners_of-requires
-corners_of-requires c = let A = first (one_given (goal.at.corners_of-requires c).In-At-place_of) in (A.level, A.occurs)
-
-pub corners_of-requires-in-At-place_of : goal.corners_of-requires-in-At-place_of
-corners_of-requires-in-At-place_of c = let B = second (goal.at.corners_of-requires-in-At-place_of c).In-At-place_of in (B.level, B.occurs)
-
+-- ---- the goals
 pub returns-in-Refused : goal.returns-in-Refused
 returns-in-Refused c =
     let a = c.args in
-    same_refusal (cell_tests a.level a.a) (bad_cell a.level a.b ∷ []) (place a.level a.a) (touches a.level a.a a.b) _
-    (sym (ap said_place c.in-Refused.is) ∙ c.place_of.ensures)
+    same_refusal (cell_tests a.level a.a) (bad_cell a.level a.b ∷ []) (place a.level a.a) (touches a.level a.a a.b) _ c.in-Refused.ensures
+
+pub returns-in-Refused-place_of : goal.returns-in-Refused-place_of
+returns-in-Refused-place_of c =
+    let a = c.args in
+    let A : Given a.level a.a (place_of c.in-At.p) = given_place _ _ _ c.in-At.ensures in
+    second-refused a.level a.a a.b _ A _ c.in-Refused-place_of.ensures
+
+pub returns-then-a-b : goal.returns-then-a-b
+returns-then-a-b c =
+    let a = c.args in
+    let A : Given a.level a.a (place_of c.in-At.p) = given_place _ _ _ c.in-At.ensures in
+    let B : Given a.level a.b (place_of c.in-At-place_of.q) = given_place _ _ _ c.in-At-place_of.ensures in
+    itself a.level a.a a.b _ A _ B c.if-a-b.true
+
+pub corners_of-requires : goal.corners_of-requires
+corners_of-requires c =
+    let a = c.args in
+    let A : Given a.level a.a (place_of c.in-At.p) = given_place _ _ _ c.in-At.ensures in
+    (A.level, A.occurs)
+
+pub corners_of-requires-in-At-place_of : goal.corners_of-requires-in-At-place_of
+corners_of-requires-in-At-place_of c =
+    let a = c.args in
+    let B : Given a.level a.b (place_of c.in-At-place_of.q) = given_place _ _ _ c.in-At-place_of.ensures in
+    (B.level, B.occurs)
 
 -- the answer as the corners decide it
-decided :
-    (c : After-have_common) (t : Bool)
-    → c.have_common.result ≡ t
-    → let a = (entry (one_given (goal.at.After-have_common c).In-At-place_of)).args in given t ≡ touch_call a.level a.a a.b
+decided : (c : After-have_common) (t : Bool) → c.have_common.result ≡ t → let a = c.args in given t ≡ touch_call a.level a.a a.b
 decided c t e =
-    let a = (entry (one_given (goal.at.After-have_common c).In-At-place_of)).args in
-    by-corners a.level a.a a.b _ (first (one_given (goal.at.After-have_common c).In-At-place_of)) _ (second (goal.at.After-have_common c).In-At-place_of) t c.if-a-b.false
+    let a = c.args in
+    let A : Given a.level a.a (place_of c.in-At.p) = given_place _ _ _ c.in-At.ensures in
+    let B : Given a.level a.b (place_of c.in-At-place_of.q) = given_place _ _ _ c.in-At-place_of.ensures in
+    by-corners a.level a.a a.b _ A _ B t c.if-a-b.false
     (sym e ∙ c.have_common.ensures ∙ ap₂ common c.corners_of.ensures c.corners_of-in-At-place_of.ensures)
 
 pub returns-then-have_common : goal.returns-then-have_common

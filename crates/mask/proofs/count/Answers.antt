@@ -1,7 +1,6 @@
 -- `count` meets its contract: refused where the slice is no mask of the level, and otherwise the ones of its bytes are summed. Assumes nothing.
 use mathlib.Core.List.{[]}
 use mathlib.Core.Path.{◌≡◌, sym, ap, ◌∙◌}
-use borrow.Author.Rules.{rules}
 use Rattle.refusal.specs.Answer.{given, done}
 use Rattle.refusal.proofs.Answers.{same_refusal, tests_left}
 use Rattle.refusal.specs.Outcome.{said_outcome}

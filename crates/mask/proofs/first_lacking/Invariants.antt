@@ -1,14 +1,9 @@
 use Prim.Native.Nat.{ℕ, ◌≤◌, ◌<◌, ◌+◌, ◌*◌, ◌-◌}
-use mathlib.Core.Path.{◌≡◌, refl}
+use mathlib.Core.Path.{◌≡◌}
 use mathlib.Core.Bool.{false}
-use mathlib.Core.Logic.{⊎_elim}
-use native.Mathlib.Omega.{arith}
-use borrow.Author.Count.{below_more, below_none}
-use borrow.Author.Tests.{eqb-true, eqb-false}
 use lib.ListN.{length}
 use Rattle.bitset.specs.Bits.{marked}
 use Rattle.mask.specs.Mask.{difference}
-use Rattle.mask.proofs.Laws.{lacking, unmarked, marked_too}
 use Rattle.mask.proofs.first_lacking.Given as goal
 
 abbrev pub invariant-loop-j : goal.invariant-loop-j

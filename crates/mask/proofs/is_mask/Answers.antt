@@ -3,7 +3,6 @@ use Prim.Native.Nat.{◌^◌, ◌≤◌}
 use mathlib.Core.Path.{◌≡◌}
 use native.Mathlib.Omega.{arith}
 use borrow.Author.Tests.{lt-ltb, le-ltb, eq-eqb, ne_eqb}
-use borrow.Author.Rules.{rules}
 use lib.ListN.{length}
 use Rattle.mask.specs.Mask.{max_mask_level}
 use Rattle.mask.proofs.Laws.{level_shifted}

@@ -1,6 +1,5 @@
 -- `join` meets its contract: a call that its tests refuse leaves the slice, and any other writes the bits of either mask. Assumes nothing.
 use mathlib.Core.Path.{◌≡◌, sym, ap, ◌∙◌}
-use borrow.Author.Rules.{rules}
 use Rattle.refusal.specs.Answer.{given, in_order, done}
 use Rattle.refusal.specs.Outcome.{said_outcome}
 use Rattle.mask.specs.Mask.{join_tests}

@@ -1,10 +1,10 @@
 -- `join_bytes` meets its contract. The invariant: the bytes passed hold the bits of either mask, and the length is kept.
 -- The measure is what is left of the bytes. Assumes nothing.
-use Prim.Native.Nat.{ℕ, ◌≤◌, ◌<◌, ◌+◌, ◌*◌, ◌-◌}
-use mathlib.Core.Path.{◌≡◌, refl}
+use Prim.Native.Nat.{◌+◌, ◌*◌}
+use mathlib.Core.Path.{refl}
 use native.Mathlib.Omega.{arith}
 use borrow.Author.Count.{below_none}
-use lib.ListN.{length, get_or, length-set}
+use lib.ListN.{length, length-set}
 use Rattle.bitset.specs.Bits.{marked, bits_of}
 use Rattle.bitset.proofs.Laws.{bytes_are, fill_more}
 use Rattle.mask.specs.Mask.{union}
@@ -22,7 +22,7 @@ loop-i-preserved c =
     let l = c.loop-i in
     let x = c.args.a.now in
     let y = c.args.b.now in
-    let e = either x y l.i (c.shared_slice_known-1.given l.i).fits (c.shared_slice_known-in-loop-i-1.given l.i).fits in
+    let e = either x y l.i (omega arith) (omega arith) in
     let more = fill_more (λ k. bits_of 8 (λ j. union (marked x) (marked y) (8 * k + j))) l.out l.i _ (omega arith) l.invariant.2 e in
     (simp length-set (omega arith), simp length-set l.invariant.1, more)
 

@@ -1,12 +1,8 @@
 use Prim.Native.Nat.{ℕ, ◌≤◌, ◌<◌, ◌+◌, ◌*◌, ◌-◌}
-use mathlib.Core.Path.{◌≡◌, refl}
-use native.Mathlib.Omega.{arith}
-use borrow.Author.Count.{below_none}
-use lib.ListN.{length, get_or, length-set}
+use mathlib.Core.Path.{◌≡◌}
+use lib.ListN.{length, get_or}
 use Rattle.bitset.specs.Bits.{marked, bits_of}
-use Rattle.bitset.proofs.Laws.{bytes_are, fill_more}
 use Rattle.mask.specs.Mask.{union}
-use Rattle.mask.proofs.Laws.{either}
 use Rattle.mask.proofs.join_bytes.Given as goal
 
 abbrev pub invariant-loop-i : goal.invariant-loop-i

@@ -1,11 +1,7 @@
-use Prim.Native.Nat.{suc, ◌≤◌, ◌+◌, ◌*◌, ◌-◌}
-use mathlib.Core.Path.{◌≡◌, refl, sym}
-use native.Mathlib.Numerals.{add-one}
-use native.Mathlib.Omega.{arith}
-use lib.Count.{ones}
-use lib.ListN.{length, get_or}
+use Prim.Native.Nat.{◌≤◌, ◌*◌, ◌-◌}
+use mathlib.Core.Path.{◌≡◌}
+use lib.ListN.{length}
 use Rattle.bitset.specs.Bits.{marked, size}
-use Rattle.bitset.proofs.Laws.{size_byte, size_le, ones_size}
 use Rattle.mask.proofs.sum_ones.Given as goal
 
 abbrev pub invariant-loop-i : goal.invariant-loop-i

@@ -5,7 +5,6 @@ use mathlib.Core.List.{[], ◌∷◌}
 use mathlib.Core.Path.{◌≡◌, sym, ap, ◌∙◌}
 use native.Mathlib.Omega.{arith}
 use borrow.Author.Tests.{eq-eqb, ne_eqb}
-use borrow.Author.Rules.{rules}
 use lib.ListN.{length}
 use Rattle.refusal.specs.Answer.{done}
 use Rattle.refusal.specs.Tests.{bad_length}
@@ -52,3 +51,12 @@ returns-else-cell-a c =
     let P = difference (marked a.a.now) (marked a.b.now) in
     let v = lowest_none P (8 * 4 ^ a.level) 0 (λ e h. c.first_lacking-cell.ensures.none_below e (omega (arith, m.long))) in
     simp (m.passes.0, m.passes.1.0, eq-eqb _ _ (second (goal.at.returns-else-cell-a c).Else-a-b), v)
+
+pub returns-then-cell-a : goal.returns-then-cell-a
+returns-then-cell-a c =
+    let a = c.args in
+    let m = first (goal.at.returns-then-cell-a c).In-Done in
+    let f = c.first_lacking-cell in
+    let P = difference (marked a.a.now) (marked a.b.now) in
+    let v = lowest_at P (8 * 4 ^ a.level) 0 f.result (omega arith) (omega (arith, m.long)) f.ensures.none_below (f.ensures.there (omega arith)) in
+    simp (m.passes.0, m.passes.1.0, eq-eqb _ _ (second (goal.at.returns-then-cell-a c).Else-a-b), v)

@@ -15,7 +15,6 @@ together l =
 pub slice_bounds-line-end : goal.slice_bounds-line-end
 slice_bounds-line-end c = (written_counts 32 _ _ _ (together (goal.at.slice_bounds-line-end c).After-append-c)).0
 
-
 pub slice_bounds-append-end-5 : goal.slice_bounds-append-end-5
 slice_bounds-append-end-5 c = (written_counts 32 _ _ _ (together (goal.at.slice_bounds-append-end-5 c).After-append-c)).1
 

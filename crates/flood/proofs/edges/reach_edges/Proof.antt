@@ -22,12 +22,12 @@ low e = size_low e.args.level e.requires.0
 abbrev Is : ℕ → ℕ → ℕ → ℕ → Type 0
 Is i o t r = (i ≡ spot o t r) × (i < spot_count)
 
-east-cell : (c : tie.After-spot-of) → let a = c.before.args in Is c.spot_of_lem.result a.octant a.n (2 ^ a.level - 1 - a.n)
+east-cell : (c : tie.After-spot-of) → let a = c.before.args in Is c.spot_of.result a.octant a.n (2 ^ a.level - 1 - a.n)
 east-cell c =
     let e = c.before in
     let a = e.args in
     let l = low e in
-    let r = c.spot_of_lem.ensures ∙ ap (λ (m : ℕ). spot_in a.octant a.n (m - 1 - a.n)) (size e) in
+    let r = c.spot_of.ensures ∙ ap (λ (m : ℕ). spot_in a.octant a.n (m - 1 - a.n)) (size e) in
     spot_told a.octant a.n (2 ^ a.level - 1 - a.n) r (omega arith) (omega arith) (omega arith)
 
 west-cell : (c : tie.After-spot-of2) → let a = c.before.before.before.args in Is c.spot-of2.result (east a.octant) a.n 0
