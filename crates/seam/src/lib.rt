@@ -1,4 +1,6 @@
 // The seams of the octants. A point on an octant's edge has a bit in two octants, and a tip in four: all bits of a point are made the same.
+#![tactic(auto)]
+
 ghost use Rattle.std.specs.Prelude.{◌≡◌, cond, ℕ, leb};
 ghost use Rattle.mask.specs.Mask.{max_mask_level};
 ghost use Rattle.rows.specs.Rows.{lit};
