@@ -38,16 +38,8 @@ in_rows_lem k X a u₀ d₀ u d h e f p q = go
     go Up i = p i ∙ there (cell_at Triangle.up k (marked a) i) (lit u₀ i) ∙ at_cong k Up (marked a) X i f
     go Down i = q i ∙ there (cell_at Triangle.down k (marked a) i) (lit d₀ i) ∙ at_cong k Down (marked a) X i f
 
--- a slice copied into another of its length
-copied : (s d l : List ℕ) → length s ≡ length d → l ≡ take (length s) s ++ drop (length s) d → l ≡ s
-copied s d l e f = f ∙ ap₂ ◌++◌ (take-length s) (rw e (drop-length d)) ∙ append-nil s
-
 -- a border copied, and complemented
-module _ (k : ℕ) (border out l r : List ℕ) (hb : length border ≡ 4 ^ k) (ho : length out ≡ 4 ^ k)
-    (copy : l ≡ take (length border) border ++ drop (length border) out) (rest : r ≡ bytes_of (length l) (outside (marked l))) where
-  same : l ≡ border
-  same = copied border out l (hb ∙ sym ho) copy
-
+module _ (k : ℕ) (border l r : List ℕ) (hb : length border ≡ 4 ^ k) (same : l ≡ border) (rest : r ≡ bytes_of (length l) (outside (marked l))) where
   pub open_long : length r ≡ 4 ^ k
   open_long = ap length rest ∙ length_bytes_of (length l) (outside (marked l)) ∙ ap length same ∙ hb
 
