@@ -1,13 +1,12 @@
 -- A border's open cells, and one cell, as masks and in rows. Assumes nothing.
 use Prim.Native.Nat.{ℕ, ◌^◌, ◌≤◌, ◌<◌}
-use mathlib.Core.Path.{◌≡◌, sym, ap, ap₂, ◌∙◌}
+use mathlib.Core.Path.{◌≡◌, ap, ◌∙◌}
 use mathlib.Core.Bool.{Bool, true, cond, not, ◌||◌}
-use mathlib.Core.List.{List, ◌++◌, append-nil}
+use mathlib.Core.List.{List}
 use native.Mathlib.Omega.{arith}
 use borrow.Author.Tests.{le-leb, eq-eqb}
 use lib.Dec.{leb, eqb}
-use lib.ListN.{length, take, drop, replicate, length-replicate}
-use lib.Seq.{take-length, drop-length}
+use lib.ListN.{length, replicate, length-replicate}
 use Rattle.refusal.proofs.Tests.{both}
 use Rattle.bitset.specs.Bits.{marked, marking, bytes_of, outside}
 use Rattle.bitset.proofs.Laws.{marked_marking, length_bytes_of}

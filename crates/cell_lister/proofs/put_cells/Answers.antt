@@ -1,9 +1,8 @@
 -- `put_cells` meets its contract. The invariant: the level and the first i cells are put. The measure is what is left. Assumes nothing.
-use Prim.Native.Nat.{ℕ, ◌-◌, ◌≤◌}
+use Prim.Native.Nat.{ℕ, ◌≤◌}
 use mathlib.Core.Path.{◌≡◌, refl, ap, ◌∙◌}
 use mathlib.Core.List.{◌++◌}
 use native.Mathlib.Omega.{arith}
-use borrow.Author.Rules.{rules}
 use lib.ListN.{length, take}
 use Rattle.text.proofs.Laws.{written_counts}
 use Rattle.cell_lister.specs.CellLister.{lines, level_line}

@@ -1,12 +1,7 @@
-use Prim.Native.Nat.{ℕ, ◌-◌, ◌≤◌}
-use mathlib.Core.Path.{◌≡◌, refl, ap, ◌∙◌}
-use mathlib.Core.List.{◌++◌}
-use native.Mathlib.Omega.{arith}
-use borrow.Author.Rules.{rules}
-use lib.ListN.{length, take}
-use Rattle.text.proofs.Laws.{written_counts}
-use Rattle.cell_lister.specs.CellLister.{lines, level_line}
-use Rattle.cell_lister.proofs.Laws.{Put, level_short, level_put, cell_put}
+use Prim.Native.Nat.{◌-◌, ◌≤◌}
+use lib.ListN.{length}
+use Rattle.cell_lister.specs.CellLister.{level_line}
+use Rattle.cell_lister.proofs.Laws.{Put}
 use Rattle.cell_lister.proofs.put_cells.Given as goal
 
 abbrev pub invariant-loop-i : goal.invariant-loop-i

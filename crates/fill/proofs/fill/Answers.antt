@@ -1,7 +1,6 @@
 -- `fill` meets its contract: a call that its tests refuse leaves the slice, and of any other what the search reached is complemented. Assumes nothing.
 use mathlib.Core.Path.{◌≡◌, sym, ap, ◌∙◌}
 use native.Mathlib.Omega.{arith}
-use borrow.Author.Rules.{rules}
 use Rattle.refusal.specs.Answer.{given, in_order, done}
 use Rattle.refusal.specs.Outcome.{said_outcome}
 use Rattle.fill.specs.Fill.{fill_tests}

@@ -8,7 +8,6 @@ use Rattle.cell.specs.Cell.{cells}
 use Rattle.cell.proofs.Laws.{no_cell, a_cell}
 use Rattle.mask.specs.Mask.{max_mask_level}
 use Rattle.mask.proofs.Laws.{level_shifted}
-use borrow.Author.Rules.{rules}
 use mathlib.Core.Path.{ap}
 use mathlib.Core.Bool.{not}
 use Rattle.fill.proofs.fill_tests.Goals as goal

@@ -1,13 +1,10 @@
 -- `flood` meets its contract. The invariant: spots are added, none wrongly, and after a round that changed nothing the set is closed.
 -- The measure is the spots not yet set, while there is a round to go. Assumes nothing.
-use Prim.Native.Nat.{◌+◌}
-use mathlib.Core.Bool.{false, cond}
-use mathlib.Core.Path.{◌≡◌, refl}
+use mathlib.Core.Path.{refl}
 use native.Mathlib.Omega.{arith}
 use Rattle.refusal.proofs.Tests.{clash}
-use Rattle.flood.specs.Flood.{lit_of, Near, Closed, Added}
 use Rattle.flood.proofs.Turns.{added_none, added_more, turn_closed}
-use Rattle.flood.proofs.Left.{unset, rounds_less}
+use Rattle.flood.proofs.Left.{rounds_less}
 use Rattle.flood.proofs.flood.Goals as goal
 
 pub returns-then-level-gt-MAX_MASK_LEVEL : goal.returns-then-level-gt-MAX_MASK_LEVEL

@@ -1,11 +1,8 @@
 use Prim.Native.Nat.{◌+◌}
 use mathlib.Core.Bool.{false, cond}
-use mathlib.Core.Path.{◌≡◌, refl}
-use native.Mathlib.Omega.{arith}
-use Rattle.refusal.proofs.Tests.{clash}
+use mathlib.Core.Path.{◌≡◌}
 use Rattle.flood.specs.Flood.{lit_of, Near, Closed, Added}
-use Rattle.flood.proofs.Turns.{added_none, added_more, turn_closed}
-use Rattle.flood.proofs.Left.{unset, rounds_less}
+use Rattle.flood.proofs.Left.{unset}
 use Rattle.flood.proofs.flood.Given as goal
 
 abbrev pub invariant-loop-changed : goal.invariant-loop-changed

@@ -1,5 +1,4 @@
 -- `go_round` meets its contract: the steps are those inside the octants and those over the edges. Assumes nothing.
-use borrow.Author.Rules.{rules}
 use mathlib.Core.Logic.{inl, inr}
 use Rattle.flood.proofs.Turns.{turn_join}
 use Rattle.flood.proofs.go_round.Goals as goal

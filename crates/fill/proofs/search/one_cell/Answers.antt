@@ -1,5 +1,4 @@
 -- `one_cell` meets its contract: the mask is cleared, the cell marked, and put into rows. Assumes nothing.
-use borrow.Author.Rules.{rules}
 use mathlib.Core.Path.{◌∙◌}
 use Rattle.fill.proofs.Placing.{in_rows_lem, one_marks}
 use Rattle.fill.proofs.search.one_cell.Goals as goal

@@ -1,5 +1,4 @@
 -- `reach_all` meets its contract: the rows in which all steps were taken hold the cells that can be reached. Assumes nothing.
-use borrow.Author.Rules.{rules}
 use mathlib.Core.Path.{◌∙◌}
 use Rattle.bitset.specs.Bits.{marked}
 use Rattle.fill.proofs.Placing.{is_mask_lem}

@@ -1,6 +1,5 @@
 -- `reach_octant` meets its contract. The invariant: the edges in the rows and columns before n are passed. The measure is those left. Assumes nothing.
-use Prim.Native.Nat.{ℕ, ◌*◌, ◌-◌, ◌%◌, ◌^◌, ◌≤◌}
-use mathlib.Core.List.{List}
+use Prim.Native.Nat.{ℕ, ◌*◌, ◌%◌, ◌^◌, ◌≤◌}
 use mathlib.Core.Path.{◌≡◌, subst}
 use native.Mathlib.Omega.{arith}
 use Rattle.rows.proofs.Spots.{size_shifted, size_low}

@@ -1,11 +1,7 @@
-use Prim.Native.Nat.{ℕ, ◌*◌, ◌-◌, ◌%◌, ◌^◌, ◌≤◌}
+use Prim.Native.Nat.{ℕ, ◌-◌, ◌^◌, ◌≤◌}
 use mathlib.Core.List.{List}
-use mathlib.Core.Path.{◌≡◌, subst}
-use native.Mathlib.Omega.{arith}
-use Rattle.rows.proofs.Spots.{size_shifted, size_low}
-use Rattle.flood.specs.Flood.{Edges, EdgesOf}
+use Rattle.flood.specs.Flood.{EdgesOf}
 use Rattle.flood.specs.inside.Turns.{Turn}
-use Rattle.flood.proofs.Crossing.{turn_start, turn_next}
 use Rattle.flood.proofs.edges.reach_octant.Given as goal
 
 abbrev pub invariant-loop-n : goal.invariant-loop-n

@@ -1,5 +1,4 @@
 -- `reach_one` meets its contract: where the first spot is set, the word of the second is joined with its bit. Assumes nothing.
-use borrow.Author.Rules.{rules}
 use mathlib.Core.Path.{sym, ◌∙◌}
 use Rattle.flood.proofs.Crossing.{turn_one, turn_unset}
 use Rattle.flood.proofs.edges.reach_one.Goals as goal

@@ -1,6 +1,5 @@
 -- `reach_over` meets its contract. The invariant: the edges of the octants before this one are passed. The measure is those left. Assumes nothing.
-use Prim.Native.Nat.{ℕ, ◌-◌, ◌^◌, ◌≤◌}
-use mathlib.Core.List.{List}
+use Prim.Native.Nat.{ℕ, ◌^◌}
 use mathlib.Core.Path.{◌≡◌, subst}
 use native.Mathlib.Omega.{arith}
 use Rattle.flood.specs.Flood.{EdgesOf, Over}

@@ -1,10 +1,7 @@
-use Prim.Native.Nat.{ℕ, ◌-◌, ◌^◌, ◌≤◌}
+use Prim.Native.Nat.{ℕ, ◌-◌, ◌≤◌}
 use mathlib.Core.List.{List}
-use mathlib.Core.Path.{◌≡◌, subst}
-use native.Mathlib.Omega.{arith}
-use Rattle.flood.specs.Flood.{EdgesOf, Over}
+use Rattle.flood.specs.Flood.{Over}
 use Rattle.flood.specs.inside.Turns.{Turn}
-use Rattle.flood.proofs.Crossing.{turn_start, turn_next}
 use Rattle.flood.proofs.edges.reach_over.Given as goal
 
 abbrev pub invariant-loop-octant : goal.invariant-loop-octant

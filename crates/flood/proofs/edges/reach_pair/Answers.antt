@@ -1,5 +1,4 @@
 -- `reach_pair` meets its contract: one step, and then the step back. Assumes nothing.
-use borrow.Author.Rules.{rules}
 use Rattle.flood.proofs.Crossing.{turn_pair}
 use Rattle.flood.proofs.edges.reach_pair.Goals as goal
 

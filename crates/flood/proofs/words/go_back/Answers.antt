@@ -1,8 +1,6 @@
 -- `go_back` meets its contract. The invariant: spots are added, and none wrongly. The measure is the words left. Assumes nothing.
-use Prim.Native.Nat.{◌-◌, ◌≤◌}
+use Prim.Native.Nat.{◌-◌}
 use native.Mathlib.Omega.{arith}
-use Rattle.rows.specs.Rows.{cells_end, first_word}
-use Rattle.flood.specs.Flood.{Within, Added}
 use Rattle.flood.proofs.Turns.{added_none, added_more, added_among}
 use Rattle.flood.proofs.Joining.{into_within}
 use Rattle.flood.proofs.words.go_back.Goals as goal

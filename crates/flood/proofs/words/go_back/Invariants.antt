@@ -1,9 +1,6 @@
-use Prim.Native.Nat.{◌-◌, ◌≤◌}
-use native.Mathlib.Omega.{arith}
+use Prim.Native.Nat.{◌≤◌}
 use Rattle.rows.specs.Rows.{cells_end, first_word}
 use Rattle.flood.specs.Flood.{Within, Added}
-use Rattle.flood.proofs.Turns.{added_none, added_more, added_among}
-use Rattle.flood.proofs.Joining.{into_within}
 use Rattle.flood.proofs.words.go_back.Given as goal
 
 abbrev pub invariant-loop-at : goal.invariant-loop-at

@@ -1,10 +1,7 @@
 -- `go_forward` meets its contract. The invariant: the words before `at` are gone over. The measure is the words left. Assumes nothing.
-use Prim.Native.Nat.{◌-◌, ◌≤◌}
 use mathlib.Core.Path.{◌≡◌}
 use native.Mathlib.Omega.{arith}
-use Rattle.rows.specs.Rows.{cells_end, first_word}
-use Rattle.flood.specs.Flood.{Within}
-use Rattle.flood.specs.inside.Turns.{Turn}
+use Rattle.rows.specs.Rows.{cells_end}
 use Rattle.flood.proofs.Turns.{turn_none}
 use Rattle.flood.proofs.Joining.{turn_words}
 use Rattle.flood.proofs.words.go_forward.Goals as goal

@@ -1,11 +1,7 @@
 use Prim.Native.Nat.{◌-◌, ◌≤◌}
-use mathlib.Core.Path.{◌≡◌}
-use native.Mathlib.Omega.{arith}
 use Rattle.rows.specs.Rows.{cells_end, first_word}
 use Rattle.flood.specs.Flood.{Within}
 use Rattle.flood.specs.inside.Turns.{Turn}
-use Rattle.flood.proofs.Turns.{turn_none}
-use Rattle.flood.proofs.Joining.{turn_words}
 use Rattle.flood.proofs.words.go_forward.Given as goal
 
 abbrev pub invariant-loop-at : goal.invariant-loop-at

@@ -1,5 +1,4 @@
 -- `join_word` meets its contract: the word is joined with the open ones among the bits that are near, and where it is another a bit is new. Assumes nothing.
-use borrow.Author.Rules.{rules}
 use native.Mathlib.Omega.{arith}
 use Rattle.flood.proofs.Joining.{joined_same, joined_more}
 use Rattle.flood.proofs.words.join_word.Goals as goal

@@ -1,7 +1,6 @@
 -- `near_down` meets its contract: the word of the up cells, the one a row on and the one a place on, joined. Assumes nothing.
 use Prim.Native.Nat.{◌+◌}
 use mathlib.Core.Path.{refl}
-use borrow.Author.Rules.{rules}
 use Rattle.rows.proofs.Shifts.{word_read, word_next, word_back, word_or}
 use Rattle.flood.specs.inside.Turns.{near_down}
 use Rattle.flood.proofs.words.near_down.Goals as goal

@@ -2,7 +2,6 @@
 use Prim.Native.Nat.{◌+◌, ◌-◌}
 use mathlib.Core.Path.{◌≡◌}
 use native.Mathlib.Omega.{arith}
-use borrow.Author.Rules.{rules}
 use Rattle.rows.proofs.Shifts.{word_read, word_last, word_on, word_or}
 use Rattle.flood.specs.inside.Turns.{near_up}
 use Rattle.flood.proofs.words.near_up.Goals as goal

@@ -1,5 +1,4 @@
 -- `reach_word` meets its contract: the down cells of the word are joined, and then the up cells. Assumes nothing.
-use borrow.Author.Rules.{rules}
 use Rattle.flood.proofs.Joining.{turn_word}
 use Rattle.flood.proofs.words.reach_word.Goals as goal
 

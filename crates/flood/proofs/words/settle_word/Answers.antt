@@ -1,12 +1,9 @@
 -- `settle_word` meets its contract: a word whose open cells are all reached is passed; else it is gone over once, and then more may be added.
 -- The measure is how often it may still be gone over. Assumes nothing.
-use Prim.Native.Nat.{◌-◌, ◌≤◌}
 use mathlib.Core.Bool.{true}
 use mathlib.Core.Path.{sym, ◌∙◌}
 use native.Mathlib.Omega.{arith}
-use borrow.Author.Rules.{rules}
 use borrow.Author.Tests.{not-true, not-false}
-use Rattle.flood.specs.Flood.{Added}
 use Rattle.flood.specs.inside.Turns.{Into, Turn}
 use Rattle.flood.proofs.Turns.{added_none, added_more, turn_none, turn_more}
 use Rattle.flood.proofs.Joining.{full_closed}

@@ -1,13 +1,6 @@
 use Prim.Native.Nat.{◌-◌, ◌≤◌}
-use mathlib.Core.Bool.{true}
-use mathlib.Core.Path.{sym, ◌∙◌}
-use native.Mathlib.Omega.{arith}
-use borrow.Author.Rules.{rules}
-use borrow.Author.Tests.{not-true, not-false}
 use Rattle.flood.specs.Flood.{Added}
-use Rattle.flood.specs.inside.Turns.{Into, Turn}
-use Rattle.flood.proofs.Turns.{added_none, added_more, turn_none, turn_more}
-use Rattle.flood.proofs.Joining.{full_closed}
+use Rattle.flood.specs.inside.Turns.{Into}
 use Rattle.flood.proofs.words.settle_word.Given as goal
 
 abbrev pub invariant-loop-n : goal.invariant-loop-n

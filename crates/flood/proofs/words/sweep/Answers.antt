@@ -1,5 +1,4 @@
 -- `sweep` meets its contract: what is added after a change does not take it back. Assumes nothing.
-use borrow.Author.Rules.{rules}
 use Rattle.flood.proofs.Turns.{turn_more}
 use Rattle.flood.proofs.words.sweep.Goals as goal
 
