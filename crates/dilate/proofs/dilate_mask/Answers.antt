@@ -15,7 +15,7 @@ use Rattle.dilate.proofs.dilate_mask.Goals.{After-join_seams}
 
 pub returns-then-rings-eq0 : goal.returns-then-rings-eq0
 returns-then-rings-eq0 c =
-    rw c.if-rings-eq0.true (none c.args.level c.requires.0 c.args.mask.now c.requires.1 (λ i. (c.slice_known-1.given i).fits))
+    rw c.if-rings-eq0.true (none c.args.level c.requires.0 c.args.mask.now c.requires.1 (λ i. (c.type_inv.mask i).fits))
 
 -- the points of the cells marked
 first : (c : After-join_seams) → let a = c.args in Points a.level (lit c.join_seams.new.points) (marked a.mask.now)
