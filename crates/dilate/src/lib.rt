@@ -1,5 +1,7 @@
 // Growing by points. Two cells touch exactly where they share a point, so a ring goes from points to the points that share a cell with them: shifts and
 // ORs of whole rows. The cells are turned into points before the first ring, and after the last the points into the cells that have them.
+#![tactic(auto)]
+
 ghost use Rattle.std.specs.Prelude.{◌≡◌, Bool, false, ℕ, ◌^◌, ◌≤◌, length};
 ghost use Rattle.bitset.specs.Bits.{marked, bytes_of};
 ghost use Rattle.mask.specs.Mask.{max_mask_level};

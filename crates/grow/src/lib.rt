@@ -1,4 +1,6 @@
 // Growing and shrinking of masks by rings of touching cells (dilation and erosion): docs/RULES.md, 6.2.
+#![tactic(auto)]
+
 ghost use Rattle.std.specs.Prelude.{◌≡◌, ◌^◌, ◌≤◌, length, replicate};
 ghost use Rattle.refusal.specs.Answer.{done, in_order};
 ghost use Rattle.refusal.specs.Outcome.{said_outcome};
@@ -17,7 +19,7 @@ fn grow_into(level: u32, rings: u32, mask: &[u8], out: &mut [u8], work: &mut [u8
     ensures grown { out.new ≡ bytes_of (4 ^ level) (grown_cells level rings (marked mask.now)) }
     ensures cleared { work.new ≡ replicate (4 ^ level) 0 }
 {
-    bytes::copy(mask, out);
+    out.copy_from_slice(mask);
     dilate::dilate(level, rings, out);
     bitset::clear(work);
 }
@@ -28,7 +30,7 @@ fn shrink_into(level: u32, rings: u32, mask: &[u8], out: &mut [u8], work: &mut [
     ensures shrunk { out.new ≡ bytes_of (4 ^ level) (shrunk_cells level rings (marked mask.now)) }
     ensures cleared { work.new ≡ replicate (4 ^ level) 0 }
 {
-    bytes::copy(mask, out);
+    out.copy_from_slice(mask);
     bitset::complement(out);
     dilate::dilate(level, rings, out);
     bitset::complement(out);

@@ -1,10 +1,10 @@
 -- Growing by points, ring by ring: joined at the seams the corners of a set's cells are its points; what is near them are the corners of the cells one
 -- touching step on; and those cells are the cells that have a point of them. Assumes nothing.
-use Prim.Native.Nat.{ℕ, ◌+◌, ◌-◌, ◌≤◌, ◌<◌, ◌^◌}
+use Prim.Native.Nat.{ℕ, ◌+◌, ◌≤◌, ◌<◌, ◌^◌}
 use mathlib.Core.Path.{◌≡◌, refl, sym, ap, subst, ◌∙◌}
 use mathlib.Core.Bool.{Bool, true, false, ◌&&◌, ◌||◌, cond}
 use mathlib.Core.List.{List, []}
-use mathlib.Core.Logic.{◌⊎◌, inl, inr, ⊎_elim}
+use mathlib.Core.Logic.{inl, inr, ⊎_elim}
 use native.Mathlib.Nat.{one-le-pow, le_trans}
 use native.Mathlib.Omega.{arith}
 use lib.Dec.{leb, ltb}

@@ -1,1 +1,2 @@
 // Growing by points: the definitions are in specs/, what follows from them in proofs/; there are no calls.
+#![tactic(auto)]
