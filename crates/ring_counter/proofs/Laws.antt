@@ -18,7 +18,6 @@ use Rattle.cell.specs.Cell.{cells}
 use Rattle.mask.specs.Mask.{max_mask_level, count_call}
 use Rattle.grow.specs.Grow.{grown_cells, bad_rings, ring_tests, grow_call}
 use Rattle.grow.proofs.Answers.{grown_bytes}
-use Rattle.grow.proofs.Bytes.{copied}
 use Rattle.ring_counter.specs.RingCounter.{input_bytes, counts, ring_counts, line, output}
 
 -- a mask of level 5 is counted
@@ -63,12 +62,8 @@ right_length input mask r e m h =
     ∙ length_passed input_bytes input (bad_rings m₀ ∷ []) (counts m₀ (drop 1 input)) e
 
 -- the mask is what follows the first byte
-pub mask_copied : (input z m : List ℕ) →
-    let part = take (length input - 1) (drop 1 input) in
-    length input ≡ input_bytes → length z ≡ 1024 → m ≡ take (length part) part ++ drop (length part) z → m ≡ drop 1 input
-mask_copied input z m e l h =
-    let rest : take (length input - 1) (drop 1 input) ≡ drop 1 input = take_all (length input - 1) (drop 1 input) (simp length-drop (omega arith)) in
-    copied (take (length input - 1) (drop 1 input)) z m (ap length rest ∙ simp length-drop (omega arith)) h ∙ rest
+pub mask_copied : (input m : List ℕ) → length input ≡ input_bytes → m ≡ take (length input - 1) (drop 1 input) → m ≡ drop 1 input
+mask_copied input m e h = h ∙ take_all (length input - 1) (drop 1 input) (simp length-drop (omega arith))
 
 -- of a longer input the first n bytes, n above what it may have, are judged as the whole
 pub front_decides : (n : ℕ) (input : List ℕ) → input_bytes < n → output (take n input) ≡ output input

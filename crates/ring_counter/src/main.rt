@@ -1,5 +1,7 @@
 // The ring counter (docs/RULES.md, 10): reads the rings in one byte and then a mask of level 5 from standard input, nothing after, and prints
 // how many cells are marked before and after growing, or the number by which it is refused.
+#![tactic(auto)]
+
 ghost use Rattle.std.specs.Prelude.{ℕ, ◌≤◌, ◌≡◌, length, take, List, [], ◌∷◌};
 ghost use Rattle.refusal.specs.Answer.{in_order};
 ghost use Rattle.io.specs.Counts.{IsPrefixLen};
@@ -21,6 +23,7 @@ const FRONT: usize = 1026;
 
 // The descriptors of standard input and output.
 const STDIN: i32 = 0;
+
 const STDOUT: i32 = 1;
 
 // The cells marked before growing and after it, or the number by which the input is refused.

@@ -1,5 +1,7 @@
 // The C interface (include/ticklocust.h). Every function returns 0 when its call is accepted, else the refusal's number, and writes its answers
 // through references only when it is accepted.
+#![tactic(auto)]
+
 mod borders;
 mod charts;
 mod masks;
