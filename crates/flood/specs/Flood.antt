@@ -1,7 +1,7 @@
 -- Cells reached in rows of bits, from spot to spot. Filling works so; no contract of `fill` and no demand
 -- cites this file.
 -- Up cells stand in one set of rows and down cells in another, each at the spot of its octant, row and column.
-use Rattle.std.specs.Prelude.{ℕ, ◌+◌, ◌-◌, ◌/◌, ◌%◌, ◌^◌, ◌≤◌, ◌<◌, ◌≡◌, Bool, true, List, ◌⊎◌}
+use Rattle.std.specs.Prelude.{ℕ, ◌+◌, ◌-◌, ◌/◌, ◌^◌, ◌≤◌, ◌<◌, ◌≡◌, Bool, true, List, ◌⊎◌}
 use Rattle.cell.specs.declared.Kind.{Kind}
 use Rattle.cell.specs.declared.Kind.TheVariants.{Up, Down}
 use Rattle.mask.specs.Mask.{max_mask_level}

@@ -1,4 +1,6 @@
 // Reaching cells in rows of bits: from the cells that are set, all that steps lead to through open cells.
+#![tactic(auto)]
+
 ghost use Rattle.std.specs.Prelude.{◌≤◌};
 ghost use Rattle.mask.specs.Mask.{max_mask_level};
 ghost use Rattle.flood.specs.Flood.{Near, Flooded};
