@@ -1,13 +1,12 @@
 -- A border's open cells, and one cell, as masks and in rows. Assumes nothing.
 use Prim.Native.Nat.{ℕ, ◌^◌, ◌≤◌, ◌<◌}
-use mathlib.Core.Path.{◌≡◌, sym, ap, ap₂, ◌∙◌}
+use mathlib.Core.Path.{◌≡◌, ap, ◌∙◌}
 use mathlib.Core.Bool.{Bool, true, cond, not, ◌||◌}
-use mathlib.Core.List.{List, ◌++◌, append-nil}
+use mathlib.Core.List.{List}
 use native.Mathlib.Omega.{arith}
 use borrow.Author.Tests.{le-leb, eq-eqb}
 use lib.Dec.{leb, eqb}
-use lib.ListN.{length, take, drop, replicate, length-replicate}
-use lib.Seq.{take-length, drop-length}
+use lib.ListN.{length, replicate, length-replicate}
 use Rattle.refusal.proofs.Tests.{both}
 use Rattle.bitset.specs.Bits.{marked, marking, bytes_of, outside}
 use Rattle.bitset.proofs.Laws.{marked_marking, length_bytes_of}
@@ -38,24 +37,16 @@ in_rows_lem k X a u₀ d₀ u d h e f p q = go
     go Up i = p i ∙ there (cell_at Triangle.up k (marked a) i) (lit u₀ i) ∙ at_cong k Up (marked a) X i f
     go Down i = q i ∙ there (cell_at Triangle.down k (marked a) i) (lit d₀ i) ∙ at_cong k Down (marked a) X i f
 
--- a slice copied into another of its length
-copied : (s d l : List ℕ) → length s ≡ length d → l ≡ take (length s) s ++ drop (length s) d → l ≡ s
-copied s d l e f = f ∙ ap₂ ◌++◌ (take-length s) (rw e (drop-length d)) ∙ append-nil s
-
 -- a border copied, and complemented
-module _ (k : ℕ) (border out l r : List ℕ) (hb : length border ≡ 4 ^ k) (ho : length out ≡ 4 ^ k)
-    (copy : l ≡ take (length border) border ++ drop (length border) out) (rest : r ≡ bytes_of (length l) (outside (marked l))) where
-  same : l ≡ border
-  same = copied border out l (hb ∙ sym ho) copy
-
+module _ (k : ℕ) (border l r : List ℕ) (hb : length border ≡ 4 ^ k) (copy : l ≡ border) (rest : r ≡ bytes_of (length l) (outside (marked l))) where
   pub open_long : length r ≡ 4 ^ k
-  open_long = ap length rest ∙ length_bytes_of (length l) (outside (marked l)) ∙ ap length same ∙ hb
+  open_long = ap length rest ∙ length_bytes_of (length l) (outside (marked l)) ∙ ap length copy ∙ hb
 
   pub open_marks : (c : ℕ) → c < cells k → marked r c ≡ outside (marked border) c
   unfolding outside
   open_marks c h =
-      let n : length l ≡ 4 ^ k = ap length same ∙ hb in
-      complement_marks l r rest c (omega arith) ∙ ap (λ (s : List ℕ). not (marked s c)) same
+      let n : length l ≡ 4 ^ k = ap length copy ∙ hb in
+      complement_marks l r rest c (omega arith) ∙ ap (λ (s : List ℕ). not (marked s c)) copy
 
 -- a mask cleared, and one cell marked
 module _ (k o : ℕ) (out l r : List ℕ) (low : o < cells k) (ho : length out ≡ 4 ^ k) (clear : l ≡ replicate (length out) 0) (mark : r ≡ marking l o) where

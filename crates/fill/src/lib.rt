@@ -1,4 +1,6 @@
 // Filling a region: docs/RULES.md, 6.2. The fill is what no direct steps over unmarked cells reach from the outside cell.
+#![tactic(auto)]
+
 ghost use Rattle.std.specs.Prelude.{◌≡◌};
 ghost use Rattle.refusal.specs.Answer.{done, in_order};
 ghost use Rattle.refusal.specs.Outcome.{said_outcome};

@@ -17,7 +17,7 @@ fn open_cells(level: u32, border: &[u8], out: &mut [u8], up: &mut Rows, down: &m
     ensures { (t : Kind) (i : ℕ) →
         lit_of up.new down.new t i ≡ cell_at (triangle_of t) level (outside (marked border.now)) i }
 {
-    bytes::copy(border, out);
+    out.copy_from_slice(border);
     bitset::complement(out);
     raster::to_rows(level, out, up, down);
 }
