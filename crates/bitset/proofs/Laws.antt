@@ -15,7 +15,7 @@ use lib.Bits.{bit_or, or_step, or_shr, or_lt}
 use lib.Count.{ones, ones_cat}
 use lib.Dec.{eqb, ltb}
 use lib.ListN.{length, get_or, set, length-append, get_or-eq_default, get_or-append}
-use lib.Pow.{pow_pos, pow_mono, pow-lt, pow-add, split, high, low}
+use lib.Pow.{pow_pos, pow_mono, pow-lt, pow-add, split, high}
 use lib.Seq.{ext_get_or, get_or_at, get_or-set_same, get_or-set_other, set_out, set-get_or}
 use Rattle.bitset.specs.Bits.{bit, marked, bits_of, bytes_of, Bytes, size, marking}
 

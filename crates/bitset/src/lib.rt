@@ -1,4 +1,6 @@
 // Sets of cells as bits of bytes: docs/RULES.md, 6.1.
+#![tactic(auto)]
+
 ghost use Rattle.std.specs.Prelude.{◌≡◌, length, replicate};
 ghost use Rattle.bitset.specs.Bits.{marked, marking, bytes_of, outside};
 

@@ -1,4 +1,6 @@
 // Writes stored borders: docs/RULES.md, 8.
+#![tactic(auto)]
+
 mod codes;
 mod parts;
 

@@ -1,5 +1,7 @@
 // The cell lister (docs/RULES.md, 10): reads a stored border from standard input and prints its level and its cells, a line each, or the
 // number by which it is refused.
+#![tactic(auto)]
+
 ghost use Rattle.std.specs.Prelude.{ℕ, ◌≤◌, ◌≡◌, List, ◌++◌, length, take};
 ghost use Rattle.io.specs.Counts.{IsPrefixLen};
 ghost use Rattle.border.specs.Border.{max_cells};
@@ -17,6 +19,7 @@ const FRONT: usize = 1545;
 
 // The descriptors of standard input and output.
 const STDIN: i32 = 0;
+
 const STDOUT: i32 = 1;
 
 // Puts a level and cells into a slice, a line each, and answers the length.

@@ -1,4 +1,6 @@
 // Charts, the temperatures of cells with their ages: docs/RULES.md, 7.
+#![tactic(auto)]
+
 ghost use Rattle.std.specs.Prelude.{◌≡◌};
 ghost use Rattle.refusal.specs.Answer.{given};
 ghost use Rattle.refusal.specs.Outcome.{said_outcome};

@@ -1,4 +1,6 @@
 // One day of a chart: docs/RULES.md, 7.3.
+#![tactic(auto)]
+
 ghost use Rattle.std.specs.Prelude.{◌≡◌, true, cond, ◌≤◌, ◌<◌, length};
 ghost use Rattle.std.specs.Float.Ieee as Ieee;
 ghost use Rattle.refusal.specs.Answer.{done, in_order};

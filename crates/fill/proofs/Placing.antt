@@ -38,15 +38,15 @@ in_rows_lem k X a u₀ d₀ u d h e f p q = go
     go Down i = q i ∙ there (cell_at Triangle.down k (marked a) i) (lit d₀ i) ∙ at_cong k Down (marked a) X i f
 
 -- a border copied, and complemented
-module _ (k : ℕ) (border l r : List ℕ) (hb : length border ≡ 4 ^ k) (copy : l ≡ border) (rest : r ≡ bytes_of (length l) (outside (marked l))) where
+module _ (k : ℕ) (border l r : List ℕ) (hb : length border ≡ 4 ^ k) (same : l ≡ border) (rest : r ≡ bytes_of (length l) (outside (marked l))) where
   pub open_long : length r ≡ 4 ^ k
-  open_long = ap length rest ∙ length_bytes_of (length l) (outside (marked l)) ∙ ap length copy ∙ hb
+  open_long = ap length rest ∙ length_bytes_of (length l) (outside (marked l)) ∙ ap length same ∙ hb
 
   pub open_marks : (c : ℕ) → c < cells k → marked r c ≡ outside (marked border) c
   unfolding outside
   open_marks c h =
-      let n : length l ≡ 4 ^ k = ap length copy ∙ hb in
-      complement_marks l r rest c (omega arith) ∙ ap (λ (s : List ℕ). not (marked s c)) copy
+      let n : length l ≡ 4 ^ k = ap length same ∙ hb in
+      complement_marks l r rest c (omega arith) ∙ ap (λ (s : List ℕ). not (marked s c)) same
 
 -- a mask cleared, and one cell marked
 module _ (k o : ℕ) (out l r : List ℕ) (low : o < cells k) (ho : length out ≡ 4 ^ k) (clear : l ≡ replicate (length out) 0) (mark : r ≡ marking l o) where

@@ -1,5 +1,6 @@
 // The numbers by which a call is refused, as docs/RULES.md, 9, gives them.
 // A refused call has no other effect than to answer its number: every lent slice stays as it was.
+#![tactic(auto)]
 
 // The level is above its bound.
 pub const LEVEL: u8 = 1;

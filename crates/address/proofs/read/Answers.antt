@@ -1,6 +1,6 @@
 -- `address::read` meets its contract. The invariant: `i` is at most the length, and the number so far with the characters that are left gives the
 -- address's; the measure is what is left of the length. Assumes nothing.
-use Prim.Native.Nat.{ℕ, ◌+◌, ◌≤◌, ◌<◌, ◌-◌}
+use Prim.Native.Nat.{ℕ, ◌+◌, ◌<◌}
 use mathlib.Core.Path.{◌≡◌, refl, sym, ap, ◌∙◌}
 use mathlib.Core.List.{List}
 use native.Mathlib.Numerals.{add-one}

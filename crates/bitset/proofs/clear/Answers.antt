@@ -1,10 +1,10 @@
 -- `clear` meets its contract. The invariant: the first `i` bytes are 0 and the others what they were. The measure is what is left of the length. Assumes nothing.
-use Prim.Native.Nat.{ℕ, ◌≤◌, ◌-◌}
+use Prim.Native.Nat.{ℕ}
 use mathlib.Core.Path.{◌≡◌, refl, ap, ◌∙◌}
-use mathlib.Core.List.{List, ◌++◌, append-nil}
+use mathlib.Core.List.{List, append-nil}
 use native.Mathlib.Omega.{arith}
 use borrow.Author.Fill.{fill_none, fill_more}
-use lib.ListN.{length, set, drop, replicate, length-set}
+use lib.ListN.{length, set, length-set}
 use lib.Seq.{drop-length}
 use Rattle.bitset.proofs.clear.Goals as goal
 

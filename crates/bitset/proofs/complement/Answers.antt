@@ -1,12 +1,12 @@
 -- `complement` meets its contract. The invariant: the first `i` bytes hold the bits that were not marked, and the others are as they were. The
-use Prim.Native.Nat.{ℕ, ◌+◌, ◌*◌, ◌≤◌, ◌<◌, ◌-◌}
-use mathlib.Core.Path.{◌≡◌, refl, ap, ◌∙◌}
+use Prim.Native.Nat.{ℕ, ◌+◌, ◌*◌, ◌-◌}
+use mathlib.Core.Path.{refl, ap, ◌∙◌}
 use native.Mathlib.Omega.{arith}
 use borrow.Author.Count.{below_none}
 use lib.ListN.{length, get_or, length-set}
 use Rattle.bitset.specs.Bits.{marked, bits_of, outside}
 use Rattle.bitset.proofs.Laws.{bytes_are, fill_more}
-use Rattle.bitset.proofs.Outside.{Rest, rest_all, rest_less, byte_outside}
+use Rattle.bitset.proofs.Outside.{rest_all, rest_less, byte_outside}
 use Rattle.bitset.proofs.complement.Goals as goal
 
 -- measure is what is left of the length. Assumes nothing.

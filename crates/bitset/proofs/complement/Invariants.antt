@@ -1,12 +1,9 @@
 -- `complement` meets its contract. The invariant: the first `i` bytes hold the bits that were not marked, and the others are as they were. The
 use Prim.Native.Nat.{ℕ, ◌+◌, ◌*◌, ◌≤◌, ◌<◌, ◌-◌}
-use mathlib.Core.Path.{◌≡◌, refl, ap, ◌∙◌}
-use native.Mathlib.Omega.{arith}
-use borrow.Author.Count.{below_none}
-use lib.ListN.{length, get_or, length-set}
+use mathlib.Core.Path.{◌≡◌}
+use lib.ListN.{length, get_or}
 use Rattle.bitset.specs.Bits.{marked, bits_of, outside}
-use Rattle.bitset.proofs.Laws.{bytes_are, fill_more}
-use Rattle.bitset.proofs.Outside.{Rest, rest_all, rest_less, byte_outside}
+use Rattle.bitset.proofs.Outside.{Rest}
 use Rattle.bitset.proofs.complement.Given as goal
 
 abbrev pub invariant-loop-i : goal.invariant-loop-i

@@ -1,7 +1,6 @@
 -- `is_marked` meets its contract: the byte and the bit are those of the definition, and past the end there is neither. Assumes nothing.
 use mathlib.Core.Path.{refl, sym}
 use native.Mathlib.Omega.{arith}
-use borrow.Author.Rules.{rules}
 use Rattle.bitset.specs.Bits.{bit, marked}
 use Rattle.bitset.proofs.Laws.{marked_past}
 use Rattle.bitset.proofs.is_marked.Goals as goal

@@ -3,7 +3,6 @@ use Prim.Native.Nat.{◌*◌, ◌-◌, ◌%◌, ◌^◌, ◌≤◌, ◌<◌}
 use mathlib.Core.Path.{◌≡◌, ◌∙◌}
 use native.Mathlib.Nat.{le_refl}
 use native.Mathlib.Omega.{arith}
-use borrow.Author.Rules.{rules}
 use lib.Bits.{or_shifted, xor_lt, and_lt, or_lt}
 use lib.Pow.{pow_pos, pow_mono, ones_lt, shl_exact}
 use Rattle.cell.specs.Cell.{place_of, span, digits, number, max_level}

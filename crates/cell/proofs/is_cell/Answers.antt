@@ -1,7 +1,6 @@
 -- `is_cell` meets its contract: what is left of the number without the level's digits is an octant. Assumes nothing.
 use mathlib.Core.Path.{sym}
 use native.Mathlib.Omega.{arith}
-use borrow.Author.Rules.{rules}
 use borrow.Author.Tests.{lt-ltb}
 use Rattle.cell.proofs.Laws.{level_test, below_higher_level}
 use Rattle.cell.proofs.is_cell.Goals as goal

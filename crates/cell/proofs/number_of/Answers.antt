@@ -1,6 +1,5 @@
 -- `number_of` meets its contract: its tests are the definition's, N as the code shifts it, and past them the place occurs. Assumes nothing.
 use native.Mathlib.Omega.{arith}
-use borrow.Author.Rules.{rules}
 use borrow.Author.Tests.{lt-ltb, le-ltb, le-leb, lt-leb}
 use Rattle.cell.specs.Cell.{max_level}
 use Rattle.cell.proofs.Laws.{shifted}

@@ -1,6 +1,5 @@
 -- `place_of` meets its contract: an octant above 7, as the code tests it, is a number past the level's. Assumes nothing.
 use native.Mathlib.Omega.{arith}
-use borrow.Author.Rules.{rules}
 use borrow.Author.Tests.{lt-ltb, le-ltb, le-leb, lt-leb}
 use Rattle.cell.specs.Cell.{max_level}
 use Rattle.cell.proofs.Laws.{no_cell, a_cell}

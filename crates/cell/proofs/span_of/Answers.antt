@@ -1,5 +1,4 @@
 -- `span_of` meets its contract, by the cell's kind; the sum of two numbers of 32 bits fits 64. Assumes nothing.
-use borrow.Author.Rules.{rules}
 use Rattle.cell.specs.Cell.{span}
 use Rattle.cell.proofs.span_of.Goals as goal
 

@@ -4,11 +4,10 @@ use mathlib.Core.Path.{◌≡◌, sym, ap, ap₂, ◌∙◌}
 use mathlib.Core.Bool.{Bool, true, false}
 use mathlib.Core.List.{[], ◌∷◌}
 use borrow.Author.Tests.{eq-eqb, ne_eqb, le-ltb, lt-leb}
-use borrow.Author.Rules.{rules}
 use Rattle.refusal.specs.Answer.{given, refused}
 use Rattle.refusal.specs.Tests.{bad_level}
 use Rattle.refusal.proofs.Answers.{same_refusal, gives}
-use Rattle.cell.specs.Cell.{Place, place, place_of, said_place, place_call, max_level, cells, bad_cell, cell_tests}
+use Rattle.cell.specs.Cell.{Place, place, place_of, place_call, max_level, cells, bad_cell, cell_tests}
 use Rattle.cell.proofs.Answers.{Given, given_place}
 use Rattle.corner.specs.Corner.{corners, common, touches, touch_call}
 use Rattle.corner.proofs.cells_touch.Goals as goal

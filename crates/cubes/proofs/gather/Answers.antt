@@ -1,6 +1,5 @@
 -- `gather` meets its contract: the place is that of a cell of the level, and the slice has room for all ways. Assumes nothing.
 use mathlib.Core.Path.{◌≡◌, sym, ap, ◌∙◌}
-use borrow.Author.Rules.{rules}
 use Rattle.cell.specs.Cell.{place, place_of, said_place}
 use Rattle.cell.proofs.Answers.{Given, given_place}
 use Rattle.adjacency.specs.declared.Cube.{Cube}

@@ -1,9 +1,8 @@
 -- `gather_ways` meets its contract. The invariant: slice and count are what the ways below `w` gather. The measure is the number of ways left. Assumes nothing.
-use Prim.Native.Nat.{ℕ, ◌-◌, ◌^◌, ◌≤◌, ◌<◌}
+use Prim.Native.Nat.{ℕ, ◌^◌, ◌≤◌, ◌<◌}
 use mathlib.Core.Path.{◌≡◌, refl, ap, ◌∙◌}
 use mathlib.Core.List.{List}
 use native.Mathlib.Omega.{arith}
-use lib.ListN.{length}
 use Rattle.cell.specs.Cell.{place, cells}
 use Rattle.cell.proofs.Laws.{shifted}
 use Rattle.adjacency.specs.declared.Cube.{Cube}

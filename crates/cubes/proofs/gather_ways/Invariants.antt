@@ -1,13 +1,7 @@
-use Prim.Native.Nat.{ℕ, ◌-◌, ◌^◌, ◌≤◌, ◌<◌}
-use mathlib.Core.Path.{◌≡◌, refl, ap, ◌∙◌}
-use mathlib.Core.List.{List}
-use native.Mathlib.Omega.{arith}
+use Prim.Native.Nat.{◌-◌, ◌≤◌}
+use mathlib.Core.Path.{◌≡◌}
 use lib.ListN.{length}
-use Rattle.cell.specs.Cell.{place, cells}
-use Rattle.cell.proofs.Laws.{shifted}
-use Rattle.adjacency.specs.declared.Cube.{Cube}
-use Rattle.adjacency.specs.Cube.{sum, cube_of, gathered}
-use Rattle.cubes.proofs.Gathering.{rooms, room_found, gathered-more}
+use Rattle.adjacency.specs.Cube.{gathered}
 use Rattle.cubes.proofs.gather_ways.Given as goal
 
 abbrev pub invariant-loop-w : goal.invariant-loop-w

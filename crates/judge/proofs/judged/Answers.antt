@@ -4,7 +4,6 @@ use mathlib.Core.Path.{refl}
 use mathlib.Core.List.{List}
 use mathlib.Core.Logic.{◌⊎◌, inl, inr}
 use native.Mathlib.Omega.{arith}
-use borrow.Author.Rules.{rules}
 use Rattle.refusal.proofs.Tests.{clash}
 use Rattle.judge.specs.Judge.{most, Room, Judged}
 use Rattle.judge.specs.declared.Score.{Score}

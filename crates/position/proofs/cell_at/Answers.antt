@@ -30,7 +30,6 @@ returns-then-out c =
     let north = le-ltb q (nat_abs y) (omega (arith, c.from_equator-p.ensures)) in
     simp (le-ltb _ _ c.if-level-gt-MAX_LEVEL.false, north, sym c.longitude_out-out.ensures ∙ c.if-out.true)
 
--- the state at entry
 -- past the tests none applies
 past : (c : Else-out) →
     let a = c.args in

@@ -7,8 +7,7 @@ use Rattle.code.proofs.Calls.{refused_from, refused_to, given_code}
 use Rattle.step.proofs.code_between.Goals as goal
 use Rattle.step.proofs.code_between.Goals.{In-At, In-At-place_of}
 
--- the state at entry, where the first cell's place was given
--- that place is the first cell's
+-- where the first cell's place was given, that place is the cell's
 first : (c : In-At) → Given c.args.level c.args.from (place_of c.in-At.here)
 first c = given_place _ _ _ (rw c.in-At.is at c.place_of.ensures)
 

@@ -13,8 +13,7 @@ use Rattle.code.proofs.Calls.{given_step}
 use Rattle.step.proofs.step_along.Goals as goal
 use Rattle.step.proofs.step_along.Goals.{In-At, In-At-target_of}
 
--- the state at entry, where the cell's place was given
--- that place is the cell's
+-- where the cell's place was given, that place is the cell's
 known : (c : In-At) → Given c.args.level c.args.cell (place_of c.in-At.place)
 known c = given_place _ _ _ (rw c.in-At.is at c.place_of.ensures)
 

@@ -1,6 +1,5 @@
 -- `append` meets its contract: what fits is copied into the part of the slice that begins at its place. Assumes nothing.
 use native.Mathlib.Omega.{arith}
-use borrow.Author.Rules.{rules}
 use Rattle.text.proofs.Laws.{append_none, append_some}
 use Rattle.text.proofs.append.Goals as goal
 

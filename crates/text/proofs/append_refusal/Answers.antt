@@ -1,6 +1,5 @@
 -- `append_refusal` meets its contract: the line is put together piece after piece, and then put at once. Assumes nothing.
 use mathlib.Core.Path.{refl, ap, ◌∙◌}
-use borrow.Author.Rules.{rules}
 use lib.ListN.{replicate}
 use Rattle.text.specs.Text.{appended, refusal_line}
 use Rattle.text.proofs.Laws.{Written, written_counts, refusal_written}

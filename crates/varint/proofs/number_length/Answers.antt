@@ -1,8 +1,7 @@
 -- `number_length` meets its contract. The invariant: one group less than `count` is taken, and `left` is what is left. The measure is `left`.
 -- Assumes nothing.
-use Prim.Native.Nat.{◌-◌, ◌≤◌}
 use native.Mathlib.Omega.{arith}
-use Rattle.varint.proofs.Groups.{Taken, taken_none, taken_more, taken_all}
+use Rattle.varint.proofs.Groups.{taken_none, taken_more, taken_all}
 use Rattle.varint.proofs.number_length.Goals as goal
 
 pub loop-left-init : goal.loop-left-init

@@ -1,6 +1,5 @@
 use Prim.Native.Nat.{◌-◌, ◌≤◌}
-use native.Mathlib.Omega.{arith}
-use Rattle.varint.proofs.Groups.{Taken, taken_none, taken_more, taken_all}
+use Rattle.varint.proofs.Groups.{Taken}
 use Rattle.varint.proofs.number_length.Given as goal
 
 abbrev pub invariant-loop-left : goal.invariant-loop-left

@@ -4,7 +4,7 @@ use Prim.Native.Nat.{ℕ, ◌-◌, ◌*◌, ◌^◌, ◌≤◌, ◌<◌}
 use native.Mathlib.Nat.{mul-le-mul}
 use native.Mathlib.Omega.{arith}
 use lib.ListN.{get_or}
-use Rattle.varint.proofs.Groups.{Reading, reading_none, reading_units, reading_more, reading_last, reading_short, reading_long}
+use Rattle.varint.proofs.Groups.{reading_none, reading_units, reading_more, reading_last, reading_short, reading_long}
 use Rattle.varint.proofs.read_groups.Goals as goal
 use Rattle.varint.proofs.read_groups.Goals.{After-shared_slice_known-1}
 

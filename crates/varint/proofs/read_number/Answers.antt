@@ -3,7 +3,6 @@ use mathlib.Core.Path.{◌≡◌, sym, ap, ◌∙◌}
 use native.Mathlib.Omega.{arith}
 use lib.ListN.{drop}
 use Rattle.refusal.specs.Answer.{given}
-use borrow.Author.Rules.{rules}
 use Rattle.varint.specs.Varint.{valued}
 use Rattle.varint.specs.inside.Groups.{said_groups}
 use Rattle.varint.proofs.Calls.{read_refused, read_high, read_longer, read_given, read_within}

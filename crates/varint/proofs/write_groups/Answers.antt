@@ -1,12 +1,10 @@
 -- `write_groups` meets its contract. The invariant: the groups of what is left, put into the slice as it is from `place` on, make the slice that is
 -- asked for. The measure is `rest`. Assumes nothing.
-use Prim.Native.Nat.{◌+◌, ◌-◌, ◌≤◌}
+use Prim.Native.Nat.{◌+◌, ◌-◌}
 use mathlib.Core.Path.{◌≡◌, refl, sym, ◌∙◌}
 use native.Mathlib.Omega.{arith}
-use lib.ListN.{length, length-set}
-use lib.Seq.{sets}
-use Rattle.varint.specs.Varint.{groups, numeral}
-use Rattle.varint.proofs.Groups.{Taken, taken_none, taken_more, taken_some, put_more, put_last}
+use lib.ListN.{length-set}
+use Rattle.varint.proofs.Groups.{taken_none, taken_more, taken_some, put_more, put_last}
 use Rattle.varint.proofs.write_groups.Goals as goal
 
 pub loop-rest-init : goal.loop-rest-init

@@ -1,10 +1,9 @@
-use Prim.Native.Nat.{◌+◌, ◌-◌, ◌≤◌}
-use mathlib.Core.Path.{◌≡◌, refl, sym, ◌∙◌}
-use native.Mathlib.Omega.{arith}
-use lib.ListN.{length, length-set}
+use Prim.Native.Nat.{◌-◌, ◌≤◌}
+use mathlib.Core.Path.{◌≡◌}
+use lib.ListN.{length}
 use lib.Seq.{sets}
 use Rattle.varint.specs.Varint.{groups, numeral}
-use Rattle.varint.proofs.Groups.{Taken, taken_none, taken_more, taken_some, put_more, put_last}
+use Rattle.varint.proofs.Groups.{Taken}
 use Rattle.varint.proofs.write_groups.Given as goal
 
 abbrev pub invariant-loop-rest : goal.invariant-loop-rest

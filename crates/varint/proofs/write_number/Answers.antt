@@ -1,6 +1,5 @@
 -- `write_number` meets its contract: where there is room, the groups are put. Assumes nothing.
 use native.Mathlib.Omega.{arith}
-use borrow.Author.Rules.{rules}
 use Rattle.varint.proofs.Calls.{write_refused, write_given}
 use Rattle.varint.proofs.write_number.Goals as goal
 

@@ -13,7 +13,7 @@ use mathlib.Core.Bool.{not}
 use Rattle.border_reader.proofs.header.read_header.Goals as goal
 use Rattle.border_reader.proofs.header.read_header.Goals.{Else-not-is_cell, In-Number, In-Number-read_number, In-Number-read_number-2}
 
--- the bytes, and what is told of each number that was read
+-- what is told of each number that was read
 level-told : (t : In-Number) →
     given (t.in-Number.level, t.in-Number.after_level) ≡ read_call t.args.bytes.now 0
 level-told t = sym (ap said_read t.in-Number.is) ∙ t.read_number.ensures

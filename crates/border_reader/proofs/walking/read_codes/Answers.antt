@@ -49,7 +49,7 @@ returns-then-cells-count c =
     let a = c.args in
     no_room a.bytes.now a.cells.now _ _ _ _ (whole (goal.at.returns-then-cells-count c).After-is_padded) (ltb-true _ _ (sym (padded-told (goal.at.returns-then-cells-count c).After-is_padded) ∙ not-false _ (ap not c.if-not-is_padded.false))) (omega arith)
 
--- the state in which the padding is tested
+-- what the walk answers
 walk-told : (w : After-walk) → let a = w.args in w.walk.result ≡ found (cells_of a.bytes.now (header_is a.header))
 walk-told w =
     let a = w.args in

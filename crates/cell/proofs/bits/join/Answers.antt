@@ -1,6 +1,5 @@
 -- `join` meets its contract: the pass spreads both halves, and the digits are taken off it. Assumes nothing.
 use mathlib.Core.Path.{◌∙◌}
-use borrow.Author.Rules.{rules}
 use Rattle.cell.proofs.Runs.{masks}
 use Rattle.cell.proofs.Passes.{joined}
 use Rattle.cell.proofs.bits.join.Goals as goal

@@ -1,7 +1,6 @@
 -- `split` meets its contract: the pass leaves the even bits of the digits and of their half, which are the odd ones. Assumes nothing.
 use mathlib.Core.Path.{◌∙◌}
 use native.Mathlib.Omega.{arith}
-use borrow.Author.Rules.{rules}
 use Rattle.cell.proofs.Runs.{masks}
 use Rattle.cell.proofs.Passes.{halves}
 use Rattle.cell.proofs.bits.split.Goals as goal

@@ -2,7 +2,6 @@
 use Prim.Native.Nat.{ℕ, ◌+◌, ◌^◌, ◌≤◌}
 use native.Mathlib.Omega.{arith}
 use lib.Pow.{pow_mono}
-use borrow.Author.Rules.{rules}
 use Rattle.cell.specs.Cell.{span, max_level}
 use Rattle.corner.specs.Corner.{triangle_corners}
 use Rattle.corner.proofs.Common.{three}

@@ -3,7 +3,6 @@ use Prim.Native.Nat.{◌%◌}
 use mathlib.Core.Path.{◌≡◌}
 use mathlib.Core.Bool.{true, false}
 use native.Mathlib.Omega.{arith}
-use borrow.Author.Rules.{rules}
 use Rattle.corner.specs.Corner.{equatorial}
 use Rattle.corner.proofs.Signed.{held}
 use Rattle.corner.proofs.corners.first_number.Goals as goal

@@ -3,7 +3,6 @@ use mathlib.Core.Path.{refl}
 use mathlib.Core.Bool.{true}
 use mir.Syntax.{w32}
 use mir.Facts.{to_z_pos}
-use borrow.Author.Rules.{rules}
 use Rattle.corner.specs.Corner.{minus}
 use Rattle.corner.proofs.Signed.{zero_less, signed_fits, held}
 use Rattle.corner.proofs.corners.signed.Goals as goal

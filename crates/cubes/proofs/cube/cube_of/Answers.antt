@@ -4,7 +4,6 @@ use mathlib.Core.Path.{sym, ap, ◌∙◌}
 use mathlib.Core.Bool.{true, false}
 use native.Mathlib.Omega.{arith}
 use lib.Dec.{leb}
-use borrow.Author.Rules.{rules}
 use Rattle.cell.specs.Cell.{span, triangle_of}
 use Rattle.cell.proofs.Laws.{shifted}
 use Rattle.corner.proofs.Octants.{second_first}

@@ -2,7 +2,6 @@
 use Prim.Native.Nat.{◌+◌}
 use mathlib.Core.Path.{◌≡◌}
 use native.Mathlib.Omega.{arith}
-use borrow.Author.Rules.{rules}
 use Rattle.cell.specs.Cell.{span, triangle_of}
 use Rattle.cubes.proofs.cube.left_over.Goals as goal
 use Rattle.cubes.proofs.cube.left_over.Goals.{In-Down, In-Up}

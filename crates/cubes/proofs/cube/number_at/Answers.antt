@@ -4,7 +4,6 @@ use Rattle.refusal.specs.Answer.{given}
 use Rattle.refusal.proofs.Answers.{given≢refused, given_same}
 use Rattle.cell.specs.Cell.{number, place_of, said_number}
 use Rattle.cell.proofs.Answers.{given_number}
-use borrow.Author.Rules.{rules}
 use Rattle.cubes.proofs.cube.number_at.Goals as goal
 use Rattle.cubes.proofs.cube.number_at.Goals.{After-number_of}
 

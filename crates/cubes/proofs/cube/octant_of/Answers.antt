@@ -1,7 +1,6 @@
 -- `octant_of` meets its contract, north and south. Assumes nothing.
 use mathlib.Core.Path.{sym}
 use native.Mathlib.Nat.{add-zero}
-use borrow.Author.Rules.{rules}
 use Rattle.cubes.proofs.cube.octant_of.Goals as goal
 
 pub returns-then-z : goal.returns-then-z

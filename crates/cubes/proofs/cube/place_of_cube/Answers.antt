@@ -1,7 +1,6 @@
 -- `place_of_cube` meets its contract: octant and column are the definition's, and the sum tells up from down. Assumes nothing.
 use Prim.Native.Nat.{◌+◌}
 use borrow.Author.Tests.{eq-eqb, ne_eqb}
-use borrow.Author.Rules.{rules}
 use Rattle.cell.specs.Cell.{up, down}
 use Rattle.adjacency.specs.Cube.{sum, place_in}
 use Rattle.cubes.proofs.cube.place_of_cube.Goals as goal

@@ -1,5 +1,4 @@
 -- `cube_along` meets its contract: each side goes its own way. Assumes nothing.
-use borrow.Author.Rules.{rules}
 use Rattle.adjacency.specs.Cube.{moved_cube}
 use Rattle.cubes.proofs.way.cube_along.Goals as goal
 

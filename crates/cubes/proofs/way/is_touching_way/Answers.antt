@@ -1,7 +1,6 @@
 -- `is_touching_way` meets its contract: the sums are those of the definition. Assumes nothing.
 use mathlib.Core.Path.{◌∙◌}
 use borrow.Author.Tests.{eq-eqb, ne_eqb}
-use borrow.Author.Rules.{rules}
 use Rattle.adjacency.specs.Cube.{touching_way, least, most}
 use Rattle.cubes.proofs.way.is_touching_way.Goals as goal
 

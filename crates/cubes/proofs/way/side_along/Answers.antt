@@ -1,5 +1,4 @@
 -- `side_along` meets its contract, way by way. Assumes nothing.
-use borrow.Author.Rules.{rules}
 use Rattle.adjacency.specs.Cube.{moved}
 use Rattle.adjacency.proofs.Sides.{moved_out, moved_across, moved_in}
 use Rattle.cubes.proofs.way.side_along.Goals as goal

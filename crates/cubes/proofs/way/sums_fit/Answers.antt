@@ -1,6 +1,5 @@
 -- `sums_fit` meets its contract, test by test. Assumes nothing.
 use borrow.Author.Tests.{le-leb, lt-leb}
-use borrow.Author.Rules.{rules}
 use Rattle.adjacency.specs.Cube.{sums_fit}
 use Rattle.cubes.proofs.way.sums_fit.Goals as goal
 

@@ -1,6 +1,5 @@
 -- `cell_at` meets its contract: the way leads to a place of the level, whose number is given. Assumes nothing.
 use mathlib.Core.Path.{◌≡◌, sym, ap, ◌∙◌}
-use borrow.Author.Rules.{rules}
 use Rattle.refusal.specs.Answer.{given}
 use Rattle.refusal.proofs.Answers.{given≢refused, given_same}
 use Rattle.cell.specs.Cell.{number_call, said_number}

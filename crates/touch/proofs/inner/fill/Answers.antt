@@ -1,12 +1,11 @@
 -- `fill` meets its contract. The invariant: the first `i` places hold their cells. The measure is the number of places left. Assumes nothing.
-use Prim.Native.Nat.{ℕ, ◌≤◌, ◌<◌, ◌-◌}
+use Prim.Native.Nat.{◌<◌}
 use mathlib.Core.Path.{◌≡◌, refl, ◌∙◌}
 use mathlib.Core.Logic.{⊎_elim}
 use native.Mathlib.Nat.{eq-or-lt_of_le}
 use native.Mathlib.Omega.{arith}
-use lib.ListN.{length, get_or, length-set}
+use lib.ListN.{length-set}
 use lib.Seq.{get_or-set_same, get_or-set_other}
-use Rattle.touch.specs.inside.Inner.{inner_cell}
 use Rattle.touch.proofs.inner.fill.Goals as goal
 
 pub loop-i-init : goal.loop-i-init

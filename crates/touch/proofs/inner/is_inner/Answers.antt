@@ -7,7 +7,6 @@ use Rattle.cell.specs.Cell.{triangle_of, max_level}
 use Rattle.cell.proofs.Laws.{shifted}
 use Rattle.touch.specs.inside.Inner.{is_inner}
 use Rattle.adjacency.proofs.Cubes.{span_is, row_of, col_of}
-use borrow.Author.Rules.{rules}
 use Rattle.touch.proofs.inner.is_inner.Goals as goal
 use Rattle.touch.proofs.inner.is_inner.Goals.{Start}
 

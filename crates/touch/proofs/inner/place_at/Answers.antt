@@ -5,7 +5,6 @@ use native.Mathlib.Omega.{arith}
 use borrow.Author.Tests.{eq-eqb, ne_eqb}
 use Rattle.touch.specs.inside.Inner.{inner_way, stepped}
 use Rattle.touch.proofs.Steps.{turn, steps_at}
-use borrow.Author.Rules.{rules}
 use Rattle.touch.proofs.inner.place_at.Goals as goal
 use Rattle.touch.proofs.inner.place_at.Goals.{After-step_at-2}
 

@@ -1,7 +1,6 @@
 -- `step_at` meets its contract, by the kind. Assumes nothing.
 use native.Mathlib.Omega.{arith}
 use Rattle.touch.specs.inside.Inner.{inner_step}
-use borrow.Author.Rules.{rules}
 use Rattle.touch.proofs.inner.step_at.Goals as goal
 
 pub returns-in-Up : goal.returns-in-Up
