@@ -12,4 +12,4 @@ pub returns : goal.returns
 returns c =
     let a = c.args in
     joined_more a.at a.near c.word.result a.opened.now a.words.now c.word.ensures c.requires.0 c.requires.1
-    (omega (arith, c.slice_known-2-1.given a.at)) (omega arith) (omega arith) c.if-joined-last.false
+    (omega arith) (omega arith) (omega arith) c.if-joined-last.false
