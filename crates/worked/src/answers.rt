@@ -1,8 +1,7 @@
 // From the text of a case to the text of its answer.
-use crate::scan;
 use crate::out::{Answer, LENGTH};
 use crate::words::WORDS;
-use crate::{borders, cells, charts, digits, lists, masks, out, shapes, steps, words};
+use crate::{borders, cells, charts, digits, lists, masks, out, scan, shapes, steps, words};
 
 // The calls whose answers are of one form.
 fn short_call(call: usize, count: usize, kinds: &[u8; WORDS], values: &[u32; WORDS]) -> Answer {

@@ -1,7 +1,6 @@
 // Parts of the lists of a case's words. Where a list has no such part, they are all of it.
-use crate::scan;
-use crate::temperature;
 use crate::words::WORDS;
+use crate::{scan, temperature};
 
 fn low_byte(n: u32) -> u8 {
     (n % 256) as u8
@@ -18,7 +17,7 @@ pub fn convert(values: &[u32], bytes: &mut [u8], reals: &mut [f32]) {
 }
 
 // Where a list of words stands, whether the word long stood after it, and where the next list begins.
-#[derive(Drop)]
+#[derive(Clone, Copy)]
 pub struct Part {
     pub from: usize,
     pub to: usize,

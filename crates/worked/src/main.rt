@@ -1,5 +1,7 @@
 // Runs cases: reads them from standard input, a line each, makes the library's calls, and prints what they answered beside what was expected.
 // crates/worked/stdin says how a case is written.
+#![tactic(auto)]
+
 mod answers;
 mod borders;
 mod cells;
@@ -22,6 +24,7 @@ const INPUT: usize = 262144;
 
 // The descriptors of standard input and output.
 const STDIN: i32 = 0;
+
 const STDOUT: i32 = 1;
 
 // The one function that writes text. A failed write is not reported.

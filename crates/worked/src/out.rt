@@ -10,7 +10,7 @@ pub const PIECE: usize = 32;
 pub const BY_NUMBER: u32 = 15;
 
 // An answer: its form, and the values that stand in it.
-#[derive(Drop)]
+#[derive(Clone, Copy)]
 pub struct Answer(pub usize, pub u32, pub u32, pub u32);
 
 // The forms, by their rows in the table.

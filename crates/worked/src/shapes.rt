@@ -1,7 +1,6 @@
 // The names of the calls, and which words each takes.
-use crate::scan;
-use crate::out;
 use crate::words::WORDS;
+use crate::{out, scan};
 
 // The length of a row of a table, of which the first eight characters are a name.
 pub const ROW: usize = 20;

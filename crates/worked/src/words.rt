@@ -1,8 +1,7 @@
 // The words of a case, read into two lists: their kinds and their values.
-use crate::scan;
 use crate::out::LENGTH;
 use crate::shapes::ROW;
-use crate::{out, shapes, temperature};
+use crate::{out, scan, shapes, temperature};
 
 // How many words a case may have.
 pub const WORDS: usize = 4200;
@@ -49,7 +48,7 @@ const VALUES: [u32; NAMES] = [
 
 // A word: its kind and its value. The kinds: % a number, $ one below zero, & the cell of an address, ! the letter of a code, # a temperature, by its
 // bits, k up (0) or down (1), l the word long, | a bar or the end of the case, L the word list, and ? what is none of these.
-#[derive(Drop)]
+#[derive(Clone, Copy)]
 pub struct Word(pub u8, pub u32);
 
 // The value of the digits in a text; what is below them, as a point or a sign, is passed over.

@@ -2,8 +2,7 @@
 use Rattle.std.proofs.Common.{ℕ, ◌%◌, ◌≤◌, not, T, arith, rules, le-ltb}
 use lib.Ieee.{binary32, nan_bits, ones, hid, top}
 use lib.Ieee.Bits.{nan_bits_above}
-use Rattle.worked.proofs.temperature.of_size.Statement.{statement}
-use Rattle.worked.proofs.temperature.of_size.Tie as tie
+use Rattle.worked.proofs.temperature.of_size.Goals as goal
 
 no_nan : (n : ℕ) → n ≤ 2139095040 → T (not (nan_bits binary32 n))
 unfolding ones hid top
@@ -11,5 +10,5 @@ no_nan n h =
     let m : n % 2147483648 ≤ 2139095040 = omega arith in
     rw (nan_bits_above, le-ltb 2139095040 (n % 2147483648) m) tt
 
-pub of-size-spec : {M : Type 1} → statement M
-of-size-spec = tie.close (tie.spec (λ c. search rules) (λ c. no_nan _ (search rules)) (λ c. search rules))
+pub float_from_bits-result : goal.float_from_bits-result
+float_from_bits-result c = no_nan _ (search rules)
