@@ -3,7 +3,6 @@ use mathlib.Core.Path.{sym, ap, ◌∙◌}
 use Rattle.refusal.proofs.Answers.{given≢refused, given_same}
 use Rattle.mask.specs.Mask.{said_count}
 use Rattle.ring_counter.proofs.Laws.{counted}
-use borrow.Author.Rules.{rules}
 use Rattle.ring_counter.proofs.marked_cells.Goals as goal
 
 pub returns-in-Count : goal.returns-in-Count

@@ -1,8 +1,6 @@
 -- `outcome_of` meets its contract: an input of another length is refused, and of any other the mask is what follows the first byte. Assumes nothing.
-use mathlib.Core.Path.{refl}
 use native.Mathlib.Omega.{arith}
 use Rattle.ring_counter.proofs.Laws.{other_length, right_length, mask_copied}
-use borrow.Author.Rules.{rules}
 use Rattle.ring_counter.proofs.outcome_of.Goals as goal
 
 pub returns-then-input-ne-INPUT : goal.returns-then-input-ne-INPUT

@@ -1,7 +1,6 @@
 -- `output_of` meets its contract: the line of what the input comes to. Assumes nothing.
 use mathlib.Core.Path.{ap, ◌∙◌}
 use Rattle.ring_counter.specs.RingCounter.{line}
-use borrow.Author.Rules.{rules}
 use Rattle.ring_counter.proofs.output_of.Goals as goal
 
 pub returns : goal.returns

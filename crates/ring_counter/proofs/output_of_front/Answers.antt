@@ -1,7 +1,6 @@
 -- `output_of_front` meets its contract: the first bytes decide what is printed. Assumes nothing.
 use mathlib.Core.Path.{sym, ap, ◌∙◌}
 use native.Mathlib.Omega.{arith}
-use borrow.Author.Rules.{rules}
 use lib.Seq.{length-take-le}
 use Rattle.ring_counter.specs.RingCounter.{output, front_bytes}
 use Rattle.ring_counter.proofs.Laws.{front_decides}

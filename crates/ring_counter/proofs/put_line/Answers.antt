@@ -11,11 +11,11 @@ pub returns-in-Counts : goal.returns-in-Counts
 returns-in-Counts c =
     let e : length c.args.out.now ≡ 64 = search rules in
     let l =
-        counts_line c.args.out.now _ _ _ _ _ _ _ _ _ _ e
-        c.append_decimal-a.ensures
-        c.append-b.ensures
-        c.append_decimal-c.ensures
-        c.append.ensures
+    counts_line c.args.out.now _ _ _ _ _ _ _ _ _ _ e
+    c.append_decimal-a.ensures
+    c.append-b.ensures
+    c.append_decimal-c.ensures
+    c.append.ensures
     in
     record { fits = l.0; text = rw c.in-Counts.is l.1 }
 

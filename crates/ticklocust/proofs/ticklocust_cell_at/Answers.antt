@@ -1,7 +1,6 @@
 -- `ticklocust_cell_at` meets its contract. Assumes nothing.
 use mathlib.Core.Path.{◌≡◌, refl, ◌∙◌, ap₂}
 use mir.Facts.{to_z-of_z}
-use borrow.Author.Rules.{rules}
 use Rattle.position.specs.Position.{cell_call, said_cell}
 use Rattle.c_values.proofs.Told.{value_refused, value_told}
 use Rattle.ticklocust.proofs.ticklocust_cell_at.Goals as goal

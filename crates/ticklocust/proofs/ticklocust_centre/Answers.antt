@@ -3,7 +3,6 @@ use mathlib.Core.Path.{refl, ◌∙◌, ap₂}
 use lib.IntN.{ℤ}
 use mir.Facts.{to_z-of_z}
 use mir.Syntax.{w32}
-use borrow.Author.Rules.{rules}
 use Rattle.centre.specs.Centre.{said_centre}
 use Rattle.c_values.proofs.Told.{value_refused, value_told}
 use Rattle.ticklocust.proofs.ticklocust_centre.Goals as goal

@@ -1,5 +1,5 @@
 -- `trimmed` is safe and ends. The invariant: `end` is at most the length; it is the measure too. Assumes nothing.
-use Rattle.std.proofs.Common.{◌≤◌, length, rules}
+use Rattle.std.proofs.Common.{◌≤◌, length}
 use Rattle.worked.proofs.trimmed.Given as goal
 
 abbrev pub invariant-loop-end : goal.invariant-loop-end

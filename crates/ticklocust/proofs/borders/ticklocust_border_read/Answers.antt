@@ -1,6 +1,5 @@
 -- `ticklocust_border_read` meets its contract. Assumes nothing.
 use mathlib.Core.Path.{refl}
-use borrow.Author.Rules.{rules}
 use Rattle.border_reader.specs.Reader.{said_border}
 use Rattle.c_values.proofs.Told.{lent_told, lent_refused}
 use Rattle.ticklocust.proofs.borders.ticklocust_border_read.Goals as goal

@@ -1,6 +1,5 @@
 -- `ticklocust_day` meets its contract. Assumes nothing.
 use mathlib.Core.Path.{refl}
-use borrow.Author.Rules.{rules}
 use Rattle.day.specs.Day.{said_day}
 use Rattle.c_values.proofs.Told.{lent_refused, lent_told}
 use Rattle.ticklocust.proofs.charts.ticklocust_day.Goals as goal

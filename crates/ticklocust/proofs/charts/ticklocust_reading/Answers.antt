@@ -1,7 +1,6 @@
 -- `ticklocust_reading` meets its contract. Assumes nothing.
 use mathlib.Core.Path.{refl}
 use lib.Ieee as Ieee
-use borrow.Author.Rules.{rules}
 use Rattle.chart.specs.Chart.{said_reading}
 use Rattle.c_values.specs.Values.{kind_temperature_days}
 use Rattle.c_values.proofs.Told.{form_refused, form_told}

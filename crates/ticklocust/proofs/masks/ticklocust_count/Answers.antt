@@ -1,6 +1,5 @@
 -- `ticklocust_count` meets its contract. Assumes nothing.
 use mathlib.Core.Path.{refl}
-use borrow.Author.Rules.{rules}
 use Rattle.mask.specs.Mask.{said_count}
 use Rattle.c_values.proofs.Told.{value_refused, value_told}
 use Rattle.ticklocust.proofs.masks.ticklocust_count.Goals as goal

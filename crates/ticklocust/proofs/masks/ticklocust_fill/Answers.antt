@@ -1,6 +1,5 @@
 -- `ticklocust_fill` meets its contract. Assumes nothing.
 use mathlib.Core.Path.{refl}
-use borrow.Author.Rules.{rules}
 use Rattle.c_values.proofs.Told.{work_done, work_refused}
 use Rattle.refusal.specs.Outcome.{said_outcome}
 use Rattle.ticklocust.proofs.masks.ticklocust_fill.Goals as goal

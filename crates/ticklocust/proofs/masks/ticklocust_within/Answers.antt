@@ -1,6 +1,5 @@
 -- `ticklocust_within` meets its contract. Assumes nothing.
 use mathlib.Core.Path.{refl}
-use borrow.Author.Rules.{rules}
 use Rattle.mask.specs.Mask.{said_within}
 use Rattle.c_values.specs.Values.{lacking_cell}
 use Rattle.c_values.proofs.Told.{form_refused, form_told}

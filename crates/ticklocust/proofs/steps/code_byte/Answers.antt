@@ -2,7 +2,6 @@
 use mathlib.Core.Path.{refl}
 use mathlib.Core.Logic.{inl, inr}
 use native.Mathlib.Omega.{arith}
-use borrow.Author.Rules.{rules}
 use Rattle.ticklocust.proofs.steps.code_byte.Goals as goal
 
 pub returns-then-code-lt256 : goal.returns-then-code-lt256

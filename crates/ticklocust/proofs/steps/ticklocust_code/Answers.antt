@@ -1,6 +1,5 @@
 -- `ticklocust_code` meets its contract. Assumes nothing.
 use mathlib.Core.Path.{refl}
-use borrow.Author.Rules.{rules}
 use Rattle.step.specs.Step.{said_code}
 use Rattle.c_values.proofs.Told.{value_refused, value_told}
 use Rattle.ticklocust.proofs.steps.ticklocust_code.Goals as goal

@@ -1,6 +1,5 @@
 -- `ticklocust_step` meets its contract. Assumes nothing.
 use mathlib.Core.Path.{◌≡◌, refl, ◌∙◌}
-use borrow.Author.Rules.{rules}
 use Rattle.code.specs.Step.{step_call}
 use Rattle.step.specs.Step.{said_step}
 use Rattle.c_values.proofs.Told.{value_told, value_refused}

@@ -1,6 +1,5 @@
 -- `ticklocust_touching` meets its contract. Assumes nothing.
 use mathlib.Core.Path.{refl}
-use borrow.Author.Rules.{rules}
 use Rattle.touch.specs.Touch.{said_list}
 use Rattle.c_values.proofs.Told.{lent_refused, lent_told}
 use Rattle.ticklocust.proofs.steps.ticklocust_touching.Goals as goal

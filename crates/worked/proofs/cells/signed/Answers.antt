@@ -1,5 +1,5 @@
 -- `cells::signed` is safe: a size below 2^31 fits, and so does its negative. Assumes nothing.
-use Rattle.std.proofs.Common.{◌+◌, ◌-◌, ◌%◌, arith, w32, rules}
+use Rattle.std.proofs.Common.{◌+◌, ◌-◌, ◌%◌, arith, w32}
 use mir.ValLaws.{to_z_pos}
 use Rattle.position.proofs.Signed.{minus, minus_fits}
 use Rattle.worked.proofs.cells.signed.Goals as goal

@@ -1,5 +1,5 @@
 -- `digits::over` is safe and ends. The invariant: `cell` is at most their number. The measure is how many are left. Assumes nothing.
-use Rattle.std.proofs.Common.{◌-◌, ◌≤◌, rules}
+use Rattle.std.proofs.Common.{◌-◌, ◌≤◌}
 use Rattle.worked.proofs.digits.over.Given as goal
 
 abbrev pub invariant-loop-cell : goal.invariant-loop-cell

@@ -1,5 +1,5 @@
 -- `lists::convert` is safe and ends. The invariant: `i` is at most the number of words, and the other slices keep their lengths. The measure is how many are left. Assumes nothing.
-use Rattle.std.proofs.Common.{◌≡◌, ◌-◌, ◌≤◌, length, rules}
+use Rattle.std.proofs.Common.{◌≡◌, ◌-◌, ◌≤◌, length}
 use Rattle.worked.proofs.lists.convert.Given as goal
 
 abbrev pub invariant-loop-i : goal.invariant-loop-i

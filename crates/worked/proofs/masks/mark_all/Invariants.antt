@@ -1,5 +1,5 @@
 -- `masks::mark_all` is safe and ends. The invariant: `i` is at most the number of cells, and the mask keeps its length. The measure is what is left of the cells. Assumes nothing.
-use Rattle.std.proofs.Common.{◌≡◌, ◌-◌, ◌≤◌, length, rules}
+use Rattle.std.proofs.Common.{◌≡◌, ◌-◌, ◌≤◌, length}
 use Rattle.worked.proofs.masks.mark_all.Given as goal
 
 abbrev pub invariant-loop-i : goal.invariant-loop-i

@@ -1,5 +1,5 @@
 -- `shapes::place_after` is safe and ends. The measure is what is left of the shape. Assumes nothing.
-use Rattle.std.proofs.Common.{◌-◌, length, rules}
+use Rattle.std.proofs.Common.{◌-◌, length}
 use Rattle.worked.proofs.shapes.place_after.Given as goal
 
 abbrev pub invariant-loop-i : goal.invariant-loop-i

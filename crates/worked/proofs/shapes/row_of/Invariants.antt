@@ -1,5 +1,5 @@
 -- `shapes::row_of` is safe and ends. The invariant: `at` is at most the length, and `row` at most `at`. The measure is what is left of the table. Assumes nothing.
-use Rattle.std.proofs.Common.{◌-◌, ◌≤◌, length, rules}
+use Rattle.std.proofs.Common.{◌-◌, ◌≤◌, length}
 use Rattle.worked.proofs.shapes.row_of.Given as goal
 
 abbrev pub invariant-loop-at : goal.invariant-loop-at

@@ -1,5 +1,5 @@
 -- `temperature::bits_of` is safe: only what is no number differs from itself, and all else has bits. Assumes nothing.
-use Rattle.std.proofs.Common.{◌≡◌, true, not, T, refl, rules}
+use Rattle.std.proofs.Common.{◌≡◌, true, not, T, refl}
 use lib.Ieee as Ieee
 use lib.Ieee.{Float, nan, inf, fin, is_nan}
 use Rattle.refusal.proofs.Tests.{clash}

@@ -1,5 +1,5 @@
 -- `words::digits_of` is safe and ends. The invariant: `i` is at most the length of the text. The measure is what is left of it. Assumes nothing.
-use Rattle.std.proofs.Common.{◌-◌, ◌≤◌, rules}
+use Rattle.std.proofs.Common.{◌-◌, ◌≤◌}
 use Rattle.worked.proofs.words.digits_of.Given as goal
 
 abbrev pub invariant-loop-i : goal.invariant-loop-i

@@ -1,5 +1,5 @@
 -- `words::read` is safe and ends. The measure is what is left of the text. Assumes nothing.
-use Rattle.std.proofs.Common.{◌+◌, ◌-◌, length, rules}
+use Rattle.std.proofs.Common.{◌+◌, ◌-◌, length}
 use Rattle.worked.proofs.words.read.Given as goal
 
 abbrev pub invariant-loop-at : goal.invariant-loop-at

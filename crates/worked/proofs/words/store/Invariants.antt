@@ -1,5 +1,4 @@
 -- `words::store` is safe and ends. The measure is how often the word is still to be put. Assumes nothing.
-use Rattle.std.proofs.Common.{rules}
 use Rattle.worked.proofs.words.store.Given as goal
 
 abbrev pub invariant-loop-left : goal.invariant-loop-left
