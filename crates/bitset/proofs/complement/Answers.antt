@@ -1,4 +1,5 @@
 -- `complement` meets its contract. The invariant: the first `i` bytes hold the bits that were not marked, and the others are as they were. The
+-- measure is what is left of the length. Assumes nothing.
 use Prim.Native.Nat.{ℕ, ◌+◌, ◌*◌, ◌-◌}
 use mathlib.Core.Path.{refl, ap, ◌∙◌}
 use native.Mathlib.Omega.{arith}
@@ -8,8 +9,6 @@ use Rattle.bitset.specs.Bits.{marked, bits_of, outside}
 use Rattle.bitset.proofs.Laws.{bytes_are, fill_more}
 use Rattle.bitset.proofs.Outside.{rest_all, rest_less, byte_outside}
 use Rattle.bitset.proofs.complement.Goals as goal
-
--- measure is what is left of the length. Assumes nothing.
 
 pub loop-i-init : goal.loop-i-init
 loop-i-init c = (omega arith, refl, below_none _, rest_all c.args.mask.now)

@@ -1,4 +1,3 @@
--- `complement` meets its contract. The invariant: the first `i` bytes hold the bits that were not marked, and the others are as they were. The
 use Prim.Native.Nat.{ℕ, ◌+◌, ◌*◌, ◌≤◌, ◌<◌, ◌-◌}
 use mathlib.Core.Path.{◌≡◌}
 use lib.ListN.{length, get_or}

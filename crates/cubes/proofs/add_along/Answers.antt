@@ -27,7 +27,6 @@ pub cube_along-requires : goal.cube_along-requires
 cube_along-requires c =
     bases_small c.args.level c.args.room c.args.cube c.requires.level_le_max_level.2 c.requires.level_le_max_level.0
 
--- the state at the entry
 -- the way leads to a touching cell, so the next cube is next-spanned by one
 leads-on : (c : Else-not-is_touching_way) → touching_way c.args.room c.args.cube c.args.w ≡ true
 leads-on c = sym c.is_touching_way.ensures ∙ not-false _ (ap not c.if-not-is_touching_way.false)

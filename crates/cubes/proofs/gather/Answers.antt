@@ -8,7 +8,6 @@ use Rattle.cubes.proofs.Gathering.{gather-is, gather_other_length, gather_refuse
 use Rattle.cubes.proofs.gather.Goals as goal
 use Rattle.cubes.proofs.gather.Goals.{After-cube_of, Else-found-ne12}
 
--- the state at the entry
 -- the cell is one of the level
 located : (c : Else-found-ne12) → Given c.args.level c.args.cell (place_of c.in-At.place)
 located c = given_place _ _ _ c.in-At.ensures

@@ -9,8 +9,7 @@ use Rattle.varint.proofs.Calls.{read_refused, read_high, read_longer, read_given
 use Rattle.varint.proofs.read_number.Goals as goal
 use Rattle.varint.proofs.read_number.Goals.{In-Number}
 
--- the state at entry, where the groups say a number
--- and that number
+-- where the groups say a number, that number
 told : (c : In-Number) →
     let a = c.args in
     given (c.in-Number.value, c.in-Number.count) ≡ valued 5 (drop a.at a.bytes.now)

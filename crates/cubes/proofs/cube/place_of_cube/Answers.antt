@@ -5,7 +5,6 @@ use Rattle.cell.specs.Cell.{up, down}
 use Rattle.adjacency.specs.Cube.{sum, place_in}
 use Rattle.cubes.proofs.cube.place_of_cube.Goals as goal
 
--- the state at the entry
 pub returns-then-total-n : goal.returns-then-total-n
 unfolding place_in
 returns-then-total-n c =
