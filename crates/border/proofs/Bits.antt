@@ -10,7 +10,7 @@ use lib.ListN.{length, get_or}
 use lib.Pow.{field, mod-mod-pow, shr-shr}
 use Rattle.bitset.specs.Bits.{bit, marked}
 use Rattle.border.specs.Stored.{digits_of, value_of, code_bytes, packed, unpacked}
-use Rattle.border.proofs.Digits.{length_digits, get_d-digits, value_below, value_digits, digits_value, pow_pow}
+use Rattle.border.proofs.Digits.{length_digits, get_or-digits, value_below, value_digits, digits_value, pow_pow}
 
 -- n codes are at most as much as their bytes
 room : (n : ℕ) → 8 ^ n ≤ 256 ^ code_bytes n
@@ -59,7 +59,7 @@ bytes-bit : (n v c : ℕ) → c < 8 * n → marked (digits_of 256 n v) c ≡ bit
 unfolding marked bit
 bytes-bit n v c h =
     let e : 8 * (c / 8) + c % 8 ≡ c = omega arith in
-    rw (get_d-digits 256 n v (c / 8) (omega arith))
+    rw (get_or-digits 256 n v (c / 8) (omega arith))
     (ap (λ (x : ℕ). eqb x 1) (digit_bit 8 (c / 8) (c % 8) v (omega arith) ∙ ap (λ (s : ℕ). v / 2 ^ s % 2) e))
 
 -- codes are three bits each, low bits first: bit 3i + j of their bytes is bit j of code i
@@ -69,7 +69,7 @@ unfolding bit
 code_bit codes d i j h l =
     let n = length codes in
     let v = value_of 8 codes in
-    let code : get_or codes i 0 ≡ v / 8 ^ i % 8 = ap (λ (cs : List ℕ). get_or cs i 0) (sym (digits_value 8 n codes refl d)) ∙ get_d-digits 8 n v i h in
+    let code : get_or codes i 0 ≡ v / 8 ^ i % 8 = ap (λ (cs : List ℕ). get_or cs i 0) (sym (digits_value 8 n codes refl d)) ∙ get_or-digits 8 n v i h in
     bytes-bit (code_bytes n) v (3 * i + j) (omega arith)
     ∙ ap (λ (x : ℕ). eqb x 1) (sym (digit_bit 3 i j v l))
     ∙ ap (λ (c : ℕ). eqb (c / 2 ^ j % 2) 1) (sym code)

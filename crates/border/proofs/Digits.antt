@@ -16,18 +16,18 @@ length_digits b zero v = refl
 length_digits b (suc n) v = ap suc (length_digits b n (v / b))
 
 -- digit i
-pub get_d-digits : (b n v i : ℕ) → i < n → get_or (digits_of b n v) i 0 ≡ v / b ^ i % b
+pub get_or-digits : (b n v i : ℕ) → i < n → get_or (digits_of b n v) i 0 ≡ v / b ^ i % b
 unfolding digits_of
-get_d-digits b zero v i h = absurd (omega arith)
-get_d-digits b (suc n) v zero h = rw (pow-zero b, div-one v)
-get_d-digits b (suc n) v (suc i) h =
-    get_d-digits b n (v / b) i (omega arith) ∙ rw (div-div-eq-div-mul v b (b ^ i), mul_comm b (b ^ i), ← pow-suc b i)
+get_or-digits b zero v i h = absurd (omega arith)
+get_or-digits b (suc n) v zero h = rw (pow-zero b, div-one v)
+get_or-digits b (suc n) v (suc i) h =
+    get_or-digits b n (v / b) i (omega arith) ∙ rw (div-div-eq-div-mul v b (b ^ i), mul_comm b (b ^ i), ← pow-suc b i)
 
 -- from digit i on they begin with it
 pub drop_digits : (b n v i : ℕ) → i < n → drop i (digits_of b n v) ≡ (v / b ^ i % b) ∷ drop (suc i) (digits_of b n v)
 drop_digits b n v i h =
     let l : i < length (digits_of b n v) = rw (length_digits b n v) h in
-    drop-cons (digits_of b n v) i 0 l ∙ ap (λ (d : ℕ). d ∷ drop (suc i) (digits_of b n v)) (get_d-digits b n v i h)
+    drop-cons (digits_of b n v) i 0 l ∙ ap (λ (d : ℕ). d ∷ drop (suc i) (digits_of b n v)) (get_or-digits b n v i h)
 
 -- each is below the base
 pub digits_below : (b n v : ℕ) → 0 < b → (i : ℕ) → get_or (digits_of b n v) i 0 < b

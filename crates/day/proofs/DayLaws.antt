@@ -14,7 +14,7 @@ use Rattle.bitset.specs.Bits.{marked, size}
 use Rattle.chart.specs.Chart.{in_range, fresh, carried, reading_of, temperature_at, age_at, gap, max_days, Gap, reading_at}
 use Rattle.day.specs.Day.{nought, day_of, day_at, temperatures_after, ages_after, reads_after, is_fresh, summary_after}
 use Rattle.chart.proofs.Laws.{gap≢fresh, gap≢carried, reads_fresh, fresh_reads, reads_carried, carried_reads, gap_exactly}
-use Rattle.day.proofs.Days.{not_first, not_second, leaves, get_d_list_of, count_fresh}
+use Rattle.day.proofs.Days.{not_first, not_second, leaves, get_or-list_of, count_fresh}
 
 -- the day has nothing new for cell c, since the mask covers it or its new temperature is not in range
 abbrev pub NothingNew : List Float → List ℕ → ℕ → Type 0
@@ -33,7 +33,7 @@ reads_left : (n d : ℕ) (new : List Float) (clouds : List ℕ) (temps : List Fl
     reads_after n d new clouds temps ages c ≡ reading_of (day_at d new clouds temps ages c).0 (day_at d new clouds temps ages c).1
 unfolding temperatures_after ages_after
 reads_left n d new clouds temps ages c h =
-    ap₂ reading_of (get_d_list_of nan n (λ c. (day_at d new clouds temps ages c).0) c h) (get_d_list_of 0 n (λ c. (day_at d new clouds temps ages c).1) c h)
+    ap₂ reading_of (get_or-list_of nan n (λ c. (day_at d new clouds temps ages c).0) c h) (get_or-list_of 0 n (λ c. (day_at d new clouds temps ages c).1) c h)
 
 -- ---- one cell
 
@@ -219,7 +219,7 @@ unfolding ages_after day_of
 age_after n d new clouds temps ages c h b =
     let taken = not (marked clouds c) && in_range (temperature_at new c) in
     let kept = leb (age_at ages c + 1) d && in_range (temperature_at temps c) in
-    rw (get_d_list_of 0 n (λ c. (day_at d new clouds temps ages c).1) c h)
+    rw (get_or-list_of 0 n (λ c. (day_at d new clouds temps ages c).1) c h)
     (left_older taken kept (temperature_at new c) (temperature_at temps c) (age_at ages c) b)
 
 -- a cell that was a gap and gets nothing stays one

@@ -24,15 +24,15 @@ unfolding list_of
 length_list_of zero f = refl
 length_list_of (suc n) f = rw (length-append, length_list_of n f) (add-one n)
 
-pub get_d_list_of : {A : Type 0} (d : A) (n : ℕ) (f : ℕ → A) (i : ℕ) → i < n → get_or (list_of n f) i d ≡ f i
+pub get_or-list_of : {A : Type 0} (d : A) (n : ℕ) (f : ℕ → A) (i : ℕ) → i < n → get_or (list_of n f) i d ≡ f i
 unfolding list_of
-get_d_list_of d zero f i h = absurd (omega arith)
-get_d_list_of d (suc n) f i h = below_more (λ (i : ℕ). get_or (list_of n f ++ (f n ∷ [])) i d ≡ f i) n
-    (λ k l. get_or-append (list_of n f) _ d k (omega (arith, length_list_of n f)) ∙ get_d_list_of d n f k l)
+get_or-list_of d zero f i h = absurd (omega arith)
+get_or-list_of d (suc n) f i h = below_more (λ (i : ℕ). get_or (list_of n f ++ (f n ∷ [])) i d ≡ f i) n
+    (λ k l. get_or-append (list_of n f) _ d k (omega (arith, length_list_of n f)) ∙ get_or-list_of d n f k l)
     (get_or_at (list_of n f) _ [] d n (length_list_of n f)) i (omega arith)
 
 pub list_is : {A : Type 0} (d : A) (n : ℕ) (s : List A) (f : ℕ → A) → length s ≡ n → ((i : ℕ) → i < n → get_or s i d ≡ f i) → s ≡ list_of n f
-list_is d n s f e g = ext_get_or d s (list_of n f) (e ∙ sym (length_list_of n f)) (λ i h. g i (omega arith) ∙ sym (get_d_list_of d n f i (omega arith)))
+list_is d n s f e g = ext_get_or d s (list_of n f) (e ∙ sym (length_list_of n f)) (λ i h. g i (omega arith) ∙ sym (get_or-list_of d n f i (omega arith)))
 
 -- one element more is written
 pub write_more : {A : Type 0} (d : A) (f : ℕ → A) (s : List A) (i : ℕ) (x : A) → i < length s →
@@ -162,5 +162,5 @@ all_rewritten f temps₀ ages₀ temps ages s n h l r = (
   list_is 0 n ages (λ c. (f c).1) l r.age,
   r.summed
       ∙ summary_of_cong n (λ c. reading_of (f c).0 (f c).1) (reading_at (list_of n (λ c. (f c).0)) (list_of n (λ c. (f c).1)))
-      (λ c u. ap₂ reading_of (sym (get_d_list_of nan n (λ c. (f c).0) c u)) (sym (get_d_list_of 0 n (λ c. (f c).1) c u))),
+      (λ c u. ap₂ reading_of (sym (get_or-list_of nan n (λ c. (f c).0) c u)) (sym (get_or-list_of 0 n (λ c. (f c).1) c u))),
 )

@@ -83,9 +83,9 @@ children k n d p h l e =
 
 -- ---- positions
 
-has_cell_lem : (k : ℕ) (y x : ℤ) → k ≤ max_level → latitude_out y ≡ false → longitude_out x ≡ false →
+has_cell : (k : ℕ) (y x : ℤ) → k ≤ max_level → latitude_out y ≡ false → longitude_out x ≡ false →
     (n : ℕ) × (n < cells k) × (cell_call k y x ≡ given n)
-has_cell_lem k y x h u v = (number k (place_at k y x), number_below k (place_at k y x) (place_at_occurs k y x u), answers k y x h u v)
+has_cell k y x h u v = (number k (place_at k y x), number_below k (place_at k y x) (place_at_occurs k y x u), answers k y x h u v)
 
 south_mirrors : (k y : ℕ) (x : ℤ) (n : ℕ) → 1 ≤ y →
     (cell_call k (pos y) x ≡ given n) ↔ (cell_call k (neg_ℤ (pos y)) x ≡ given (n + 4 * 4 ^ k))
@@ -107,7 +107,7 @@ demand_2 = record {
   places = places;
   level_zero = level_zero;
   children = children;
-  has_cell_lem = has_cell_lem;
+  has_cell = has_cell;
   longitude = λ x h. (beginning_and_offset x h, offset_below x);
   cell_holds = answered_holds;
   cell_alone = answered_alone;

@@ -112,7 +112,7 @@ pub record Demand2 : Type 0 where
   pub children : (k n d : ℕ) (p : Place) → suc k ≤ max_level → d < 4 → place_call k n ≡ given p →
       place_call (suc k) (4 * n + d) ≡ given (p.0, child p.1 d)
   -- every position of the ranges has a cell at every level to 14
-  pub has_cell_lem : (k : ℕ) (y x : ℤ) → k ≤ max_level → latitude_out y ≡ false → longitude_out x ≡ false →
+  pub has_cell : (k : ℕ) (y x : ℤ) → k ≤ max_level → latitude_out y ≡ false → longitude_out x ≡ false →
       (n : ℕ) × (n < cells k) × (cell_call k y x ≡ given n)
   -- a longitude is its octant's beginning and m, and m is below q
   pub longitude : (x : ℤ) → longitude_out x ≡ false → (beginning (north_octant x) +ℤ pos (offset x) ≡ x) × (offset x < q)
