@@ -76,10 +76,9 @@ def shown_by_c() -> Table:
 def names() -> int:
     header = re.findall(r"TICKLOCUST_REFUSED_(\w+) = (\d+)", text(HEADER))
     wanted = {int(number): name for name, number in header}
-    rattle = re.findall(r"^pub const (\w+): u8 = (\d+);", text("crates/refusal/src/lib.rt"), re.M)
-    same("crates/refusal/src/lib.rt", {int(number): name for name, number in rattle}, wanted)
-    rust = re.findall(r"^    (\w+) = (\d+),", text("bindings/rust/src/refusal.rs"), re.M)
-    same("bindings/rust/src/refusal.rs", {int(n): name.upper() for name, n in rust}, wanted)
+    for name in "crates/refusal/src/lib.rt", "bindings/rust/src/refusal.rs":
+        cases = re.findall(r"^    (\w+) = (\d+),", text(name), re.M)
+        same(name, {int(number): case.upper() for case, number in cases}, wanted)
     if sorted(wanted) != NUMBERS:
         sys.exit(f"{HEADER} has the numbers {sorted(wanted)}")
     return 3
@@ -106,9 +105,10 @@ def conditions(sentences: Table) -> int:
     wanted = {number: said + OF_PLACES.get(number, "") for number, said in wanted.items()}
     rows = re.findall(r"^\| (\d+) \| (.+?) \| `", text("docs/RULES.md"), re.M)
     same("docs/RULES.md, 9", table(rows), wanted)
-    for name, kind in ("crates/refusal/src/lib.rt", "u8"), ("model/src/refusals.rs", "u32"):
-        constant = rf"^///? ((?:.|\n//)+?)\npub const \w+: {kind} = (\d+);"
-        found = re.findall(constant, text(name), re.M)
+    case = r"^    // ((?:.|\n    //)+?)\n    \w+ = (\d+),"
+    constant = r"^///? ((?:.|\n//)+?)\npub const \w+: u32 = (\d+);"
+    for name, form in ("crates/refusal/src/lib.rt", case), ("model/src/refusals.rs", constant):
+        found = re.findall(form, text(name), re.M)
         same(name, table([(number, words) for words, number in found]), wanted)
     return 4
 

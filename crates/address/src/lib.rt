@@ -9,10 +9,8 @@ pub fn read(address: &[u8]) -> u32
     ensures { result ≡ number_from 0 address.now }
 {
     let mut n: u32 = 0;
-    let mut i: usize = 0;
-    while i < address.len() {
-        n = n % 0x1000_0000 * 4 + (address[i] % 8) as u32;
-        i += 1;
+    for character in address {
+        n = n % 0x1000_0000 * 4 + u32::from(*character % 8);
     }
     n
 }

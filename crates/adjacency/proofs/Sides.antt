@@ -1,5 +1,5 @@
 -- One axis: two sides have an end in common exactly along a way from the one to the other. Assumes nothing.
-use Prim.Native.Nat.{ℕ, zero, suc, ◌+◌, ◌-◌, ◌≤◌}
+use Prim.Native.Nat.{ℕ, zero, suc, ◌+◌, ◌≤◌}
 use mathlib.Core.Path.{◌≡◌, refl, sym, ap, ◌∙◌}
 use mathlib.Core.Bool.{Bool, true, false, not, cond}
 use native.Mathlib.Omega.{arith}
@@ -100,33 +100,3 @@ base_moved a zero h = go a.negative a.base
     go n (suc b) = omega arith
 base_moved a (suc zero) h = refl
 base_moved a (suc (suc w)) h = omega arith
-
--- ---- the ways as the code takes them
-
-pub moved_out : (w : ℕ) (s : Side) → (w ≡ 1 → ⊥) → (w ≡ 0 → ⊥) → side_of s.negative (s.base + 1) ≡ moved w s
-unfolding moved inward
-moved_out zero s p q = absurd (q refl)
-moved_out (suc zero) s p q = absurd (p refl)
-moved_out (suc (suc w)) s p q = refl
-
-pub moved_across : (w : ℕ) (s : Side) → w ≡ 0 → s.base ≡ 0 → side_of (not s.negative) 0 ≡ moved w s
-unfolding moved inward
-moved_across w s p q = rw (p, q)
-
-pub moved_in : (w : ℕ) (s : Side) → w ≡ 0 → (s.base ≡ 0 → ⊥) → side_of s.negative (s.base - 1) ≡ moved w s
-unfolding moved inward
-moved_in w s p q = rw p (go s.base q)
-  where
-    go : (b : ℕ) → (b ≡ 0 → ⊥) → side_of s.negative (b - 1) ≡ inward s.negative b
-    go zero q = absurd (q refl)
-    go (suc b) q = ap (side_of s.negative) (omega arith)
-
-pub taken_none : (w b : ℕ) → (w ≡ 0 → ⊥) → 0 ≡ taken w b
-unfolding taken
-taken_none zero b p = absurd (p refl)
-taken_none (suc w) b p = refl
-
-pub taken_one : (w b : ℕ) → w ≡ 0 → (b ≡ 0 → ⊥) → 1 ≡ taken w b
-unfolding taken
-taken_one w zero p q = absurd (q refl)
-taken_one w (suc b) p q = rw p

@@ -6,10 +6,9 @@ use native.Mathlib.Nat.{div-div-eq-div-mul}
 use native.Mathlib.Omega.{arith}
 use borrow.Author.Tests.{le-leb, leb-true, ne_eqb, eqb-false, not-true}
 use lib.Dec.{eqb}
-use lib.Pow.{pow_mono}
 use mathlib.Core.Option.{none, some}
 use Rattle.refusal.proofs.Tests.{parts, both, clash}
-use Rattle.cell.specs.Cell.{Place, Occurs, number, max_level}
+use Rattle.cell.specs.Cell.{Place, Occurs, number}
 use Rattle.corner.specs.Corner.{corners, common}
 use Rattle.corner.proofs.Common.{three, shared_common, common_meeting, same_coordinates}
 use Rattle.adjacency.specs.declared.Side.{Side}
@@ -276,10 +275,6 @@ lands-way k p q hp hq n e =
 module _ (k r : ℕ) (c : Cube) (sums : sum c + r ≡ 2 ^ k) where
   sums_room : 2 ^ k - sum c ≡ r
   sums_room = omega arith
-
-  -- the bases are small
-  pub bases_small : k ≤ max_level → (c.x.base < 2 ^ 31) × (c.y.base < 2 ^ 31) × (c.z.base < 2 ^ 31)
-  bases_small h = omega (arith, pow_mono {i = k} {j = max_level} h)
 
   pub no_cell : (w : ℕ) → touching_way r c w ≡ false → none ≡ cell_along k c w
   unfolding cell_along

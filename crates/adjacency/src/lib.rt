@@ -3,14 +3,14 @@
 #![tactic(auto)]
 
 // One axis of the unit cube that a cell spans: its corners lie at base or base + 1 from zero, on one side of it.
-#[derive(Clone, Copy)]
+#[derive(Clone, Copy, Debug, PartialEq, Eq)]
 pub struct Side {
     pub negative: bool,
     pub base: u32,
 }
 
 // The unit cube that a cell spans, by its three axes.
-#[derive(Clone, Copy)]
+#[derive(Clone, Copy, Debug, PartialEq, Eq)]
 pub struct Cube {
     pub x: Side,
     pub y: Side,

@@ -32,9 +32,6 @@ byte_outside s i h =
 abbrev pub Rest : List ℕ → List ℕ → ℕ → Type 0
 Rest s₀ s i = (k : ℕ) → i ≤ k → get_or s k 0 ≡ get_or s₀ k 0
 
-pub rest_all : (s : List ℕ) → Rest s s 0
-rest_all s k h = refl
-
 pub rest_less : (s₀ s : List ℕ) (i x : ℕ) → Rest s₀ s i → Rest s₀ (set s i x) (i + 1)
 rest_less s₀ s i x r k h = get_or-set_other s i k x 0 (λ (e : k ≡ i). omega arith) ∙ r k (omega arith)
 

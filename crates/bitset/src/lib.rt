@@ -8,11 +8,10 @@ ghost use Rattle.bitset.specs.Bits.{marked, marking, bytes_of, outside};
 pub fn is_marked(mask: &[u8], cell: u32) -> bool
     ensures { result ≡ marked mask.now cell }
 {
-    let i = (cell / 8) as usize;
-    if mask.len() <= i {
-        return false;
+    match mask.get((cell / 8) as usize) {
+        Some(byte) => (byte >> (cell % 8)) % 2 == 1,
+        None => false,
     }
-    (mask[i] >> (cell % 8)) % 2 == 1
 }
 
 // Marks a cell. Past the end of the mask there is none to mark.
@@ -20,30 +19,23 @@ pub fn mark(mask: &mut [u8], cell: u32)
     ensures { mask.new ≡ marking mask.old cell }
 {
     let at = (cell / 8) as usize;
-    if mask.len() <= at {
-        return;
+    if at < mask.len() {
+        mask[at] |= 1 << (cell % 8);
     }
-    mask[at] = mask[at] | (1 << (cell % 8));
 }
 
 // Unmarks every cell.
 pub fn clear(mask: &mut [u8])
     ensures { mask.new ≡ replicate (length mask.old) 0 }
 {
-    let mut i = 0;
-    while i < mask.len() {
-        mask[i] = 0;
-        i += 1;
-    }
+    mask.fill(0);
 }
 
 // Marks exactly the cells that were not marked.
 pub fn complement(mask: &mut [u8])
     ensures { mask.new ≡ bytes_of (length mask.old) (outside (marked mask.old)) }
 {
-    let mut i = 0;
-    while i < mask.len() {
-        mask[i] = 255 - mask[i];
-        i += 1;
+    for byte in mask.iter_mut() {
+        *byte = !*byte;
     }
 }

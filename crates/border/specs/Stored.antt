@@ -1,6 +1,6 @@
 -- The stored form (docs/RULES.md, 8): three stored numbers, which are the level, the first cell and how many codes follow, and then the codes in
 -- three bits each, with zeros after the last.
-use Rattle.std.specs.Prelude.{ℕ, zero, suc, ◌+◌, ◌*◌, ◌/◌, ◌%◌, Bool, true, false, List, [], ◌∷◌, ◌++◌, length}
+use Rattle.std.specs.Prelude.{ℕ, zero, suc, ◌+◌, ◌*◌, ◌/◌, ◌%◌, List, [], ◌∷◌, ◌++◌, length}
 use Rattle.std.proofs.Math.Option.{Option, none, some}
 use Rattle.refusal.specs.Answer.{Answer, given, refused}
 use Rattle.varint.specs.Varint.{numeral}
@@ -44,11 +44,6 @@ before n (some ns) = some (n ∷ ns)
 abbrev pub onward : Answer ℕ → (ℕ → Option (List ℕ)) → Option (List ℕ)
 onward (given m) rest = rest m
 onward (refused i) rest = none
-
--- whether there is a list
-abbrev pub found : Option (List ℕ) → Bool
-found none = false
-found (some ns) = true
 
 -- the cells that codes lead through from cell n, itself the first; none where a step is missing
 unfoldable pub walked : ℕ → ℕ → List ℕ → Option (List ℕ)

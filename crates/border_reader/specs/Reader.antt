@@ -1,9 +1,6 @@
--- What the code's answer says: level and number of cells, or a refusal.
+-- What the code's value stands for: level and number of cells.
 use Rattle.std.specs.Prelude.{ℕ}
-use Rattle.refusal.specs.Answer.{Answer, given, refused}
-use Rattle.border_reader.specs.declared.BorderAnswer.{BorderAnswer}
-use Rattle.border_reader.specs.declared.BorderAnswer.TheVariants as border-answer
+use Rattle.border_reader.specs.declared.Border as declared
 
-abbrev pub said_border : BorderAnswer → Answer (ℕ × ℕ)
-said_border (border-answer.Read k n) = given (k, n)
-said_border (border-answer.Refused n) = refused n
+abbrev pub border_is : declared.Border → ℕ × ℕ
+border_is b = (b.level, b.count)

@@ -7,7 +7,7 @@ ghost use Rattle.border.specs.Border.{max_codes};
 fn byte_at(bytes: &[u8], i: usize) -> u32
     ensures { result ≡ get_or bytes.now i 0 }
 {
-    if i < bytes.len() { bytes[i] as u32 } else { 0 }
+    u32::from(bytes.get(i).copied().unwrap_or(0))
 }
 
 // Code i: eight codes take three bytes, and one code lies in one byte or in two.
@@ -25,11 +25,5 @@ pub(crate) fn is_padded(bytes: &[u8], count: usize) -> bool
     requires { (count ≤ max_codes) × (length bytes.now ≡ code_bytes count) }
     ensures { result ≡ ltb (value_of 256 bytes.now) (8 ^ count) }
 {
-    if code_at(bytes, count) != 0 {
-        return false;
-    }
-    if code_at(bytes, count + 1) != 0 {
-        return false;
-    }
-    code_at(bytes, count + 2) == 0
+    code_at(bytes, count) == 0 && code_at(bytes, count + 1) == 0 && code_at(bytes, count + 2) == 0
 }

@@ -11,9 +11,8 @@ pub(crate) fn pack(codes: &[u8], out: &mut [u8], at: usize)
     let mut held: u32 = 0;
     let mut bits: u32 = 0;
     let mut place = at;
-    let mut i = 0;
-    while i < codes.len() {
-        held += (codes[i] as u32) << bits;
+    for code in codes {
+        held += u32::from(*code) << bits;
         bits += 3;
         if 8 <= bits {
             out[place] = (held % 256) as u8;
@@ -21,7 +20,6 @@ pub(crate) fn pack(codes: &[u8], out: &mut [u8], at: usize)
             bits -= 8;
             place += 1;
         }
-        i += 1;
     }
     if 0 < bits {
         out[place] = held as u8;

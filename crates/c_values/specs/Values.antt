@@ -16,13 +16,14 @@ told (refused n) before = (n, before)
 abbrev pub told_lent : {A S : Type 0} → Answer A × S → A → (ℕ × A) × S
 told_lent result before = (told result.0 before, result.1)
 
--- and of one that has no value to give beyond its work
+-- what is returned where a call has no value to give beyond its work
+abbrev pub status : {A : Type 0} → Answer A → ℕ
+status (given a) = 0
+status (refused n) = n
+
+-- and with the slices that it was lent
 abbrev pub returned : {A S : Type 0} → Answer A × S → ℕ × S
 returned result = (status result.0, result.1)
-  where
-    status : {A : Type 0} → Answer A → ℕ
-    status (given a) = 0
-    status (refused n) = n
 
 -- an answer's value in C's form
 abbrev pub in_c : {A B : Type 0} → (A → B) → Answer A → Answer B

@@ -1,14 +1,10 @@
 -- Cells and their numbers (docs/RULES.md, 1). At level k, N is 2 ^ k.
 use Rattle.std.specs.Prelude.{ℕ, zero, suc, ◌+◌, ◌*◌, ◌/◌, ◌%◌, ◌^◌, ◌≤◌, ◌<◌, ◌||◌, List, [], ◌∷◌, leb, ltb, get_or}
-use Rattle.refusal.specs.Answer.{Answer, given, refused, Test, ◌when◌, in_order}
+use Rattle.refusal.specs.Answer.{Answer, Test, ◌when◌, in_order}
 use Rattle.refusal.specs.Tests.{bad_level}
 use Rattle.cell.specs.declared.Kind.{Kind}
 use Rattle.cell.specs.declared.Kind.TheVariants.{Up, Down}
 use Rattle.cell.specs.declared.Place as declared
-use Rattle.cell.specs.declared.PlaceAnswer.{PlaceAnswer}
-use Rattle.cell.specs.declared.PlaceAnswer.TheVariants as place-answer
-use Rattle.cell.specs.declared.NumberAnswer.{NumberAnswer}
-use Rattle.cell.specs.declared.NumberAnswer.TheVariants as number-answer
 
 -- ---- triangles
 
@@ -124,11 +120,3 @@ triangle_of Down a b = down a b
 
 abbrev pub place_of : declared.Place → Place
 place_of p = (p.octant, triangle_of p.kind p.row p.col)
-
-abbrev pub said_place : PlaceAnswer → Answer Place
-said_place (place-answer.At p) = given (place_of p)
-said_place (place-answer.Refused n) = refused n
-
-abbrev pub said_number : NumberAnswer → Answer ℕ
-said_number (number-answer.Number n) = given n
-said_number (number-answer.Refused n) = refused n

@@ -4,14 +4,8 @@ use mathlib.Core.Path.{◌≡◌, sym, ap, subst, ◌∙◌}
 use mathlib.Core.List.{List, [], ◌∷◌, ◌++◌, append-nil, append_assoc}
 use native.Mathlib.Numerals.{add-one}
 use native.Mathlib.Omega.{arith}
-use lib.ListN.{length, take, drop, get_or, replicate, length-append}
+use lib.ListN.{length, take, get_or, replicate, length-append}
 use lib.Seq.{take-suc, length-take-le}
-use Rattle.refusal.specs.Answer.{Answer, given}
-use Rattle.refusal.proofs.Answers.{given_same}
-use Rattle.border.specs.Stored.{value_of, unpacked}
-use Rattle.border.specs.Border.{read_border}
-use Rattle.border.proofs.Digits.{length_digits}
-use Rattle.border.proofs.Walks.{walked_length}
 use Rattle.border.proofs.Laws as border
 use Rattle.text.specs.Text.{decimal, appended}
 use Rattle.text.proofs.Laws.{Written, written_none, written_more, spelled_short}
@@ -68,21 +62,6 @@ cell_put n front cells i o o₁ o₂ a a₁ a₂ room short h m w e₁ e₂ =
     subst (Written n o₂ a₂) s w₂
 
 -- ---- the input
-
--- the cells read are one more than the codes, and fit the slice
-pub few_cells : (bs out cells : List ℕ) (k n : ℕ) → (given (k, n), cells) ≡ read_border bs out → n ≤ length out
-few_cells bs out cells k n e =
-    let g : (read_border bs out).0 ≡ given (k, n) = sym (ap (λ (p : Answer (ℕ × ℕ) × List ℕ). p.0) e) in
-    let r = border.reads_accepted bs out (k, n) g in
-    let same = given_same (sym (ap (λ (p : Answer (ℕ × ℕ) × List ℕ). p.0) (border.reads_given bs out r)) ∙ g) in
-    let codes = unpacked r.n (drop r.at bs) in
-    omega (
-      arith,
-      ap (λ (p : ℕ × ℕ). p.1) same,
-      walked_length r.k r.start codes r.cs r.walk,
-      length_digits 8 r.n (value_of 256 (drop r.at bs)),
-      r.fits,
-    )
 
 -- the first bytes are listed as all are
 pub front_decides : (input : List ℕ) → output (take front_bytes input) ≡ output input

@@ -8,7 +8,6 @@ ghost use Rattle.border.specs.Border.{max_cells};
 ghost use Rattle.cell_lister.specs.CellLister.{level_line, lines, output, front_bytes};
 
 use border::MAX_CELLS;
-use border_reader::BorderAnswer;
 use cell::CellNumber;
 
 // The bytes of the longest output: `level`, a space, a line end, and 4,097 lines, with 20 digits to a number.
@@ -23,19 +22,17 @@ const STDIN: i32 = 0;
 const STDOUT: i32 = 1;
 
 // Puts a level and cells into a slice, a line each, and answers the length.
-fn put_cells(level: u32, cells: &[CellNumber], count: usize, out: &mut [u8]) -> usize
-    requires { (count ≤ length cells.now) × (count ≤ max_cells) × (86064 ≤ length out.old) }
+fn put_cells(level: u32, cells: &[CellNumber], out: &mut [u8]) -> usize
+    requires { (length cells.now ≤ max_cells) × (86064 ≤ length out.old) }
     ensures fits { IsPrefixLen result out.new }
-    ensures text { take result out.new ≡ level_line level ++ lines (take count cells.now) }
+    ensures text { take result out.new ≡ level_line level ++ lines cells.now }
 {
     let a = text::append(out, 0, b"level ");
-    let b = text::append_decimal(out, a, level as u64);
+    let b = text::append_decimal(out, a, u64::from(level));
     let mut place = text::append(out, b, b"\n");
-    let mut i = 0;
-    while i < count {
-        let next = text::append_decimal(out, place, cells[i] as u64);
+    for cell in cells {
+        let next = text::append_decimal(out, place, u64::from(*cell));
         place = text::append(out, next, b"\n");
-        i += 1;
     }
     place
 }
@@ -47,12 +44,13 @@ fn output_of(input: &[u8], out: &mut [u8; OUTPUT]) -> usize
 {
     let mut cells = [0; MAX_CELLS];
     match border_reader::read(input, &mut cells) {
-        BorderAnswer::Read(level, count) => put_cells(level, &cells, count as usize, out),
-        BorderAnswer::Refused(n) => text::append_refusal(out, 0, n),
+        Ok(border) => put_cells(border.level, &cells[..border.count as usize], out),
+        Err(refusal) => text::append_refusal(out, 0, refusal.number()),
     }
 }
 
-// The same for every input of which `front` holds the first bytes, n of them: all of it, or as many as are read.
+// The same for every input of which `front` holds the first bytes, n of them: all of it, or as many as are read. The whole buffer is lent, since
+// its length is part of the claim.
 fn output_of_front(front: &[u8], n: usize, out: &mut [u8; OUTPUT]) -> usize
     requires { (length front.now ≡ front_bytes) × (n ≤ front_bytes) }
     ensures fits { IsPrefixLen result out.new }

@@ -7,15 +7,17 @@ use native.Mathlib.Nat.{div-lt_iff_lt-mul, le-div_iff_mul-le, mul-div-le, lt-mul
 use native.Mathlib.Nat.{mul-le-mul, mul-le-mul_left, mul-le-mul_right, mul-lt-mul_of_pos_left}
 use native.Mathlib.Omega.{arith}
 use lib.Dec.{ltb}
-use lib.Pow.{pow_pos}
+use lib.Pow.{pow_pos, pow_mono}
 use lib.IntN.{ℤ, pos, negsuc, nat_abs, neg_ℤ, ◌+ℤ◌}
 use borrow.Author.Tests.{le-ltb, ltb-true, ltb-false}
-use Rattle.cell.specs.Cell.{Triangle, up, down, row, col, Place, Occurs, span, max_level}
+use Rattle.cell.specs.Cell.{Triangle, up, down, row, col, Place, Occurs, span, max_level, triangle_of, place_of}
+use Rattle.cell.specs.declared.Kind.{Kind}
+use Rattle.cell.specs.declared.Place as declared
+use Rattle.cell.specs.declared.Kind.TheVariants.{Up, Down}
 use Rattle.position.specs.Position.{q, longitude_out, beginning, north_octant, octant, scaled_t, scaled_r, Holds, triangle_at, place_at}
 use Rattle.position.proofs.Laws.{square_third, square_third_lem, beginning_inside, beginning_octant, beginning_offset, octant_south, octant_north}
 use Rattle.position.proofs.Laws.{HoldsAt, held_holds, holds_holder, triangle_below}
 use Rattle.centre.specs.Centre.{thirds, centre_p, centre_m, latitude_of, centre}
-use Rattle.centre.specs.inside.Parts.{p_of, m_of}
 
 -- ---- a product past 64 bits
 
@@ -91,6 +93,14 @@ unfolding row col thirds span
 thirds_fit n (up a b) h = omega arith
 thirds_fit n (down a b) h = omega arith
 
+-- p and m are those of a place by its row and column
+pub place_parts : (k : ℕ) (kind : Kind) (a b s : ℕ) → s ≡ thirds (triangle_of kind a b) →
+    let p = q * (3 * a + s) / (3 * 2 ^ k) in
+    (centre_p k (triangle_of kind a b) ≡ p) × (centre_m k (triangle_of kind a b) ≡ (3 * b + s) * (q * q) / (3 * 2 ^ k * (q - p)))
+unfolding row col thirds centre_p centre_m
+place_parts k Up a b s e = rw e (refl, refl)
+place_parts k Down a b s e = rw e (refl, refl)
+
 thirds_positive : (f : Triangle) → 0 < thirds f
 unfolding thirds
 thirds_positive (up a b) = omega arith
@@ -103,8 +113,14 @@ near_triangle Q t r (up a b) h u v = omega arith
 near_triangle Q t r (down a b) h u v = omega arith
 
 -- p and m of the centre that lies x thirds of a row and y thirds of a column in, at N = n
+abbrev p_of : ℕ → ℕ → ℕ
+p_of n x = q * x / (3 * n)
+
+abbrev m_of : ℕ → ℕ → ℕ → ℕ
+m_of n y p = y * (q * q) / (3 * n * (q - p))
+
 module _ (n x y : ℕ) (hn : 0 < n) (h : x + y < 3 * n) where
-  pub p_of_below : p_of n x < q
+  p_of_below : p_of n x < q
   p_of_below = p_below q n x (omega arith) hn (omega arith)
 
   rounded : 3 * n * p_of n x ≤ q * x
@@ -113,11 +129,33 @@ module _ (n x y : ℕ) (hn : 0 < n) (h : x + y < 3 * n) where
   p_and_rest : p_of n x + (q - p_of n x) ≡ q
   p_and_rest = omega (arith, p_of_below)
 
-  pub m_of_below : m_of n y (p_of n x) < q
+  m_of_below : m_of n y (p_of n x) < q
   m_of_below = rw p_and_rest at (m_below n x y (p_of n x) (q - p_of n x) hn (omega (arith, p_of_below)) (rw p_and_rest rounded) h)
 
   m_of_near : 6 * n ≤ q → Near (q * q) (n * m_of n y (p_of n x) * (q - p_of n x)) y
   m_of_near hq = rw p_and_rest at (m_near n y (p_of n x) (q - p_of n x) hn (omega (arith, p_of_below)) (rw p_and_rest hq))
+
+-- what is known of a place of the code: the thirds of its row and column, and p and m by them
+pub record Middle (k : ℕ) (x y : ℕ) : Type 0 where
+  pub few : 2 ^ k ≤ 2 ^ max_level
+  pub fit : x + y < 3 * 2 ^ k
+  pub low : q * x / (3 * 2 ^ k) < q
+  pub east : y * (q * q) / (3 * 2 ^ k * (q - q * x / (3 * 2 ^ k))) < q
+
+thirds_of_place : (n : ℕ) (kind : Kind) (a b s : ℕ) → s ≡ thirds (triangle_of kind a b) → span (triangle_of kind a b) ≤ n → (3 * a + s) + (3 * b + s) < 3 * n
+unfolding thirds span
+thirds_of_place n Up a b s e h = omega arith
+thirds_of_place n Down a b s e h = omega arith
+
+pub middle : (k : ℕ) (p : declared.Place) (s : ℕ) → s ≡ thirds (place_of p).1 → (k ≤ max_level) × Occurs k (place_of p) → Middle k (3 * p.row + s) (3 * p.col + s)
+middle k p s e h =
+    let fit = thirds_of_place (2 ^ k) p.kind p.row p.col s e h.1.1 in
+    record {
+      few = pow_mono {i = k} {j = max_level} h.0;
+      fit = fit;
+      low = p_of_below (2 ^ k) (3 * p.row + s) (3 * p.col + s) (pow_pos k) fit;
+      east = m_of_below (2 ^ k) (3 * p.row + s) (3 * p.col + s) (pow_pos k) fit;
+    }
 
 pub centre_p_below : (k : ℕ) (f : Triangle) → span f ≤ 2 ^ k → centre_p k f < q
 unfolding centre_p

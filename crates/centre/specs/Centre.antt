@@ -1,11 +1,11 @@
 -- Centres of cells (docs/RULES.md, 3).
 -- Latitudes and longitudes are whole millionths of a degree. At level k, N is 2 ^ k.
 use Rattle.std.specs.Prelude.{ℕ, ◌+◌, ◌*◌, ◌-◌, ◌/◌, ◌^◌, cond, ltb, ℤ, pos, neg_ℤ, ◌+ℤ◌}
-use Rattle.refusal.specs.Answer.{Answer, given, refused, in_order}
+use Rattle.refusal.specs.Answer.{Answer, in_order}
 use Rattle.cell.specs.Cell.{Triangle, up, down, row, col, Place, place, cell_tests}
 use Rattle.position.specs.Position.{q, beginning}
-use Rattle.centre.specs.declared.CentreAnswer.{CentreAnswer}
-use Rattle.centre.specs.declared.CentreAnswer.TheVariants as centre-answer
+use Rattle.position.specs.declared.Latitude.{Latitude}
+use Rattle.position.specs.declared.Longitude.{Longitude}
 
 -- s: 1 for up and 2 for down
 unfoldable pub thirds : Triangle → ℕ
@@ -32,7 +32,6 @@ centre k c = (latitude_of c.0 (centre_p k c.1), beginning c.0 +ℤ pos (centre_m
 abbrev pub centre_call : ℕ → ℕ → Answer (ℤ × ℤ)
 centre_call k n = in_order (cell_tests k n) (centre k (place k n))
 
--- what the code's answer says
-abbrev pub said_centre : CentreAnswer → Answer (ℤ × ℤ)
-said_centre (centre-answer.At y x) = given (y.0, x.0)
-said_centre (centre-answer.Refused n) = refused n
+-- what the code's values stand for
+abbrev pub position_of : Latitude × Longitude → ℤ × ℤ
+position_of c = (c.0.0, c.1.0)

@@ -1,2 +1,1 @@
 pub mod Centre
-pub mod inside

@@ -8,21 +8,16 @@ use position::{Latitude, Longitude, QUARTER};
 // A quarter of a turn, as longitudes are counted.
 const QUARTER_TURN: i32 = QUARTER as i32;
 
-// The same to the west.
-const QUARTER_TURN_WEST: i32 = -QUARTER_TURN;
-
-// Half a turn to the west.
-const HALF_TURN_WEST: i32 = 2 * QUARTER_TURN_WEST;
-
 // The longitude at which an octant begins.
+#[tactic(auto, unfolding(position::specs::Position::beginning))]
 fn beginning_of(octant: u32) -> i32
     ensures { result ≡ beginning octant }
 {
     match octant % 4 {
         0 => 0,
         1 => QUARTER_TURN,
-        2 => HALF_TURN_WEST,
-        _ => QUARTER_TURN_WEST,
+        2 => -2 * QUARTER_TURN,
+        _ => -QUARTER_TURN,
     }
 }
 
@@ -32,12 +27,7 @@ pub(crate) fn latitude_of(octant: u32, p: u64) -> Latitude
     ensures { result.0 ≡ latitude_of octant p }
 {
     let north = p as i32;
-    if octant < 4 {
-        Latitude(north)
-    } else {
-        let south = 0 - north;
-        Latitude(south)
-    }
+    Latitude(if octant < 4 { north } else { -north })
 }
 
 // The longitude at an offset from its octant's beginning.
@@ -46,6 +36,5 @@ pub(crate) fn longitude_of(octant: u32, m: u64) -> Longitude
     ensures { result.0 ≡ beginning octant +ℤ pos m }
 {
     let east = m as i32;
-    let x = beginning_of(octant) + east;
-    Longitude(x)
+    Longitude(beginning_of(octant) + east)
 }

@@ -5,25 +5,17 @@ mod angle;
 mod thirds;
 
 ghost use Rattle.std.specs.Prelude.{◌≡◌};
-ghost use Rattle.centre.specs.Centre.{centre_call, said_centre};
+ghost use Rattle.refusal.specs.Refusal.{said_as};
+ghost use Rattle.centre.specs.Centre.{position_of, centre_call};
 
-use cell::{CellNumber, PlaceAnswer};
+use cell::{CellNumber, Site};
 use position::{Latitude, Longitude};
-
-// What is answered for a cell: its centre, or a refusal.
-#[derive(Drop)]
-pub enum CentreAnswer {
-    At(Latitude, Longitude),
-    Refused(u8),
-}
+use refusal::Refusal;
 
 // The centre of a cell.
-pub fn centre_of(level: u32, cell: CellNumber) -> CentreAnswer
-    ensures { said_centre result ≡ centre_call level cell }
+pub fn centre_of(level: u32, cell: CellNumber) -> Result<(Latitude, Longitude), Refusal>
+    ensures { said_as position_of result ≡ centre_call level cell }
 {
-    let answer = cell::place_of(level, cell);
-    match answer {
-        PlaceAnswer::At(place) => thirds::centre_at(level, place),
-        PlaceAnswer::Refused(n) => CentreAnswer::Refused(n),
-    }
+    let site = Site::at(level, cell)?;
+    Ok(thirds::centre_at(site))
 }

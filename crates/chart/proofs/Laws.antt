@@ -35,13 +35,13 @@ not_a_number = (refl, infinity)
 -- ---- the three readings are different
 
 pub gap≢fresh : {A : Type 0} {t : Float} → gap ≡ fresh t → A
-gap≢fresh e = let z : ◌≡◌ {A = ℕ} 0 1 = cc in absurd (omega arith)
+gap≢fresh e = absurd (cc)
 
 pub gap≢carried : {A : Type 0} {t : Float} {n : ℕ} → gap ≡ carried t n → A
-gap≢carried e = let z : ◌≡◌ {A = ℕ} 0 1 = cc in absurd (omega arith)
+gap≢carried e = absurd (cc)
 
 pub fresh≢carried : {A : Type 0} {t u : Float} {n : ℕ} → fresh t ≡ carried u n → A
-fresh≢carried e = let z : ◌≡◌ {A = ℕ} 0 1 = cc in absurd (omega arith)
+fresh≢carried e = absurd (cc)
 
 pub fresh_same : {t u : Float} → fresh t ≡ fresh u → t ≡ u
 fresh_same e = cc

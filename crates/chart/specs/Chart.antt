@@ -2,12 +2,12 @@
 use Rattle.std.specs.Prelude.{ℕ, ◌≤◌, ◌<◌, Bool, true, false, ◌&&◌, ◌||◌, not, cond, List, [], ◌∷◌, ◌⊎◌, ◌≡◌, ltb, eqb, pos, get_or, Float}
 use Rattle.std.specs.Float.Ieee as Ieee
 use Rattle.std.specs.Float.{nan, fin}
-use Rattle.refusal.specs.Answer.{Answer, given, refused, Test, in_order, done}
+use Rattle.refusal.specs.Answer.{Answer, Test, in_order, done}
 use Rattle.refusal.specs.Tests.{bad_level, bad_length}
 use Rattle.cell.specs.Cell.{cells, bad_cell}
 use Rattle.mask.specs.Mask.{max_mask_level}
-use Rattle.chart.specs.declared.ReadingAnswer.{ReadingAnswer}
-use Rattle.chart.specs.declared.ReadingAnswer.TheVariants as reading-answer
+use Rattle.chart.specs.declared.Reading as code
+use Rattle.chart.specs.declared.Reading.TheVariants as code-reading
 
 -- ---- whether two slices are a chart of a level
 
@@ -38,6 +38,12 @@ pub data Reading : Type 0 where
   fresh : Float → Reading
   carried : Float → ℕ → Reading
   gap : Reading
+
+-- how the code says it
+abbrev pub reading_is : code.Reading → Reading
+reading_is (code-reading.Fresh t) = fresh t
+reading_is (code-reading.Carried t days) = carried t days
+reading_is code-reading.Gap = gap
 
 -- the highest age that is no gap
 abbrev pub max_days : ℕ
@@ -75,10 +81,3 @@ reading_tests k temps ages c = bad_level max_mask_level k ∷ bad_cell k c ∷ b
 
 abbrev pub reading_call : ℕ → List Float → List ℕ → ℕ → Answer Reading
 reading_call k temps ages c = in_order (reading_tests k temps ages c) (reading_at temps ages c)
-
--- what the code's answers say
-abbrev pub said_reading : ReadingAnswer → Answer Reading
-said_reading (reading-answer.Fresh t) = given (fresh t)
-said_reading (reading-answer.Carried t days) = given (carried t days)
-said_reading reading-answer.Gap = given gap
-said_reading (reading-answer.Refused n) = refused n

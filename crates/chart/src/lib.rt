@@ -2,12 +2,11 @@
 #![tactic(auto)]
 
 ghost use Rattle.std.specs.Prelude.{◌≡◌};
-ghost use Rattle.refusal.specs.Answer.{given};
-ghost use Rattle.refusal.specs.Outcome.{said_outcome};
-ghost use Rattle.chart.specs.Chart.{chart_call, in_range, reading_of, reading_call, said_reading};
+ghost use Rattle.refusal.specs.Refusal.{said_as, said_done};
+ghost use Rattle.chart.specs.Chart.{chart_call, in_range, reading_of, reading_call, reading_is};
 
 use cell::CellNumber;
-use refusal::Outcome;
+use refusal::Refusal;
 
 // The lowest and the highest temperature in range.
 const LOWEST: f32 = -5.0;
@@ -19,29 +18,26 @@ pub const FRESH_AGE: u8 = 0;
 
 pub const MAX_DAYS: u8 = 30;
 
-#[derive(Drop)]
-pub enum ReadingAnswer {
+// What a cell of a chart reads: a temperature of the day, one carried for some days, or none.
+#[derive(Clone, Copy, Debug, PartialEq)]
+pub enum Reading {
     Fresh(f32),
     Carried(f32, u8),
     Gap,
-    Refused(u8),
 }
 
 // Whether two slices are a chart of a level.
-pub fn is_chart(level: u32, temperatures: &[f32], ages: &[u8]) -> Outcome
-    ensures { said_outcome result ≡ chart_call level temperatures.now ages.now }
+pub fn is_chart(level: u32, temperatures: &[f32], ages: &[u8]) -> Result<(), Refusal>
+    ensures { said_done result ≡ chart_call level temperatures.now ages.now }
 {
     if level > mask::MAX_MASK_LEVEL {
-        return Outcome::Refused(refusal::LEVEL);
+        return Err(Refusal::Level);
     }
     let cells = 8 << (2 * level);
-    if temperatures.len() != cells {
-        return Outcome::Refused(refusal::LENGTH);
+    if temperatures.len() != cells || ages.len() != cells {
+        return Err(Refusal::Length);
     }
-    if ages.len() != cells {
-        return Outcome::Refused(refusal::LENGTH);
-    }
-    Outcome::Done
+    Ok(())
 }
 
 // Whether a temperature is in range. NaN fails both comparisons.
@@ -52,33 +48,34 @@ pub fn in_range(temperature: f32) -> bool
 }
 
 // What a temperature and an age say.
-fn reading(temperature: f32, age: u8) -> ReadingAnswer
-    ensures { said_reading result ≡ given (reading_of temperature age) }
+#[tactic(auto, using(std::proofs::lemmas::Bool::Decides::nat_tests), unfolding(crate::specs::Chart::reading_of))]
+fn read(temperature: f32, age: u8) -> Reading
+    ensures { reading_is result ≡ reading_of temperature age }
 {
-    if MAX_DAYS < age {
-        return ReadingAnswer::Gap;
+    if MAX_DAYS < age || !in_range(temperature) {
+        Reading::Gap
+    } else if age == FRESH_AGE {
+        Reading::Fresh(temperature)
+    } else {
+        Reading::Carried(temperature, age)
     }
-    if !in_range(temperature) {
-        return ReadingAnswer::Gap;
-    }
-    if age == FRESH_AGE {
-        return ReadingAnswer::Fresh(temperature);
-    }
-    ReadingAnswer::Carried(temperature, age)
 }
 
 // The reading of a cell of a chart.
-pub fn reading_of(level: u32, temperatures: &[f32], ages: &[u8], cell: CellNumber) -> ReadingAnswer
-    ensures { said_reading result ≡ reading_call level temperatures.now ages.now cell }
+pub fn reading_of(
+    level: u32,
+    temperatures: &[f32],
+    ages: &[u8],
+    cell: CellNumber,
+) -> Result<Reading, Refusal>
+    ensures { said_as reading_is result ≡ reading_call level temperatures.now ages.now cell }
 {
     if mask::MAX_MASK_LEVEL < level {
-        return ReadingAnswer::Refused(refusal::LEVEL);
+        return Err(Refusal::Level);
     }
     if !cell::is_cell(level, cell) {
-        return ReadingAnswer::Refused(refusal::CELL);
+        return Err(Refusal::Cell);
     }
-    match is_chart(level, temperatures, ages) {
-        Outcome::Refused(n) => ReadingAnswer::Refused(n),
-        Outcome::Done => reading(temperatures[cell as usize], ages[cell as usize]),
-    }
+    is_chart(level, temperatures, ages)?;
+    Ok(read(temperatures[cell as usize], ages[cell as usize]))
 }

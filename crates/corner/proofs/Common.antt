@@ -1,14 +1,19 @@
 -- A point in common, as a test and as an equation. Assumes nothing.
 use Prim.Native.Nat.{ℕ, zero, suc, ◌<◌}
 use mathlib.Core.Path.{◌≡◌, refl, sym, ◌∙◌}
-use mathlib.Core.Bool.{Bool, true, ◌||◌}
+use mathlib.Core.Bool.{Bool, true, false, ◌||◌}
 use mathlib.Core.List.{List, [], ◌∷◌}
 use mathlib.Core.Logic.{◌⊎◌, inl, inr}
 use native.Mathlib.Omega.{arith}
 use borrow.Author.Tests.{eq-eqb, eqb-true}
 use lib.Dec.{eqb}
 use lib.IntN.{ℤ, pos, negsuc}
-use lib.ListN.{get_or}
+use lib.ListN.{length, get_or}
+use lib.Seq.{ext_get_or}
+use Rattle.std.specs.List.{All, list_any}
+use Rattle.std.specs.Ordering.{int_eq}
+use Rattle.std.specs.Cmp.Lexicographic.{pointwise}
+use Rattle.std.specs.Cmp.Rules.{signed_items}
 use Rattle.refusal.proofs.Tests.{same_test, both, parts, left, right, cases}
 use Rattle.corner.specs.Corner.{Point, coordinate, same_number, same_point, among, common}
 use Rattle.corner.proofs.Signed.{same_refl, same_eq}
@@ -118,3 +123,43 @@ common_symmetric xs ys =
     same_test (common xs ys) (common ys xs)
     (λ e. meeting_common ys xs (turned xs ys (common_meeting xs ys e)))
     (λ e. meeting_common xs ys (turned ys xs (common_meeting ys xs e)))
+
+-- ---- what the code compares: lists of three numbers, and each of three with each of three others
+
+three_tests : (a b c : Bool) → (a || b || c) ≡ (a || (b || (c || false)))
+three_tests true b c = refl
+three_tests false true c = refl
+three_tests false false true = refl
+three_tests false false false = refl
+
+any_of_three : (f : Point → Bool) (xs : List Point) → length xs ≡ 3 → list_any f xs ≡ (f (get_or xs 0 []) || f (get_or xs 1 []) || f (get_or xs 2 []))
+any_of_three f [] e = absurd (omega arith)
+any_of_three f (x ∷ []) e = absurd (omega arith)
+any_of_three f (x ∷ y ∷ []) e = absurd (omega arith)
+any_of_three f (x ∷ y ∷ z ∷ []) e = sym (three_tests (f x) (f y) (f z))
+any_of_three f (x ∷ y ∷ z ∷ w ∷ ws) e = absurd (omega arith)
+
+-- three numbers are the same as three others
+equal_point : (x y : Point) → length x ≡ 3 → length y ≡ 3 → pointwise int_eq x y ≡ same_point x y
+equal_point x y hx hy =
+    same_test (pointwise int_eq x y) (same_point x y)
+    (λ e. rw ((signed_items x y).0 e) (same_point_refl y))
+    (λ e. (signed_items x y).1 (ext_get_or (pos 0) x y (hx ∙ sym hy) (λ i h. same_coordinates x y e i (omega arith))))
+
+-- a list of points, three numbers each
+abbrev pub Points : List Point → Type 0
+Points xs = All (λ x. length x ≡ 3) xs
+
+pub equal_common : (xs ys : List Point) → length xs ≡ 3 → length ys ≡ 3 → Points xs → Points ys →
+    list_any (λ x. list_any (λ y. pointwise int_eq y x) ys) xs ≡ common xs ys
+unfolding among common
+equal_common xs ys ex ey px py =
+    let same : (i j : ℕ) → i < 3 → j < 3 → pointwise int_eq (get_or ys j []) (get_or xs i []) ≡ same_point (get_or xs i []) (get_or ys j []) =
+    λ i j hi hj.
+    equal_point (get_or ys j []) (get_or xs i []) (py j [] (omega arith)) (px i [] (omega arith))
+    ∙ same_point_mutual (get_or ys j []) (get_or xs i []) in
+    let row : (i : ℕ) → i < 3 → list_any (λ y. pointwise int_eq y (get_or xs i [])) ys ≡ among (get_or xs i []) ys =
+    λ i hi. any_of_three (λ y. pointwise int_eq y (get_or xs i [])) ys ey
+    ∙ rw (same i 0 hi (omega arith), same i 1 hi (omega arith), same i 2 hi (omega arith)) refl in
+    any_of_three (λ x. list_any (λ y. pointwise int_eq y x) ys) xs ex
+    ∙ rw (row 0 (omega arith), row 1 (omega arith), row 2 (omega arith)) refl

@@ -8,12 +8,12 @@ use native.Mathlib.Omega.{arith}
 use borrow.Author.Tests.{leb-true, le-leb}
 use lib.Dec.{leb}
 use lib.IntN.{ℤ, pos, nat_abs}
-use lib.ListN.{get_or}
+use lib.ListN.{length, get_or}
 use Rattle.refusal.proofs.Tests.{same_test}
 use Rattle.cell.specs.Cell.{Triangle, up, down, span, Place, place, Occurs}
 use Rattle.corner.specs.Corner.{Point, coordinate, norm, minus, quarters, equatorial, polar, point_in, corner, triangle_corners, corners, touches}
 use Rattle.corner.proofs.Octants.{octant-cases}
-use Rattle.corner.proofs.Common.{index_cases, three, eqb_mutual, common_symmetric}
+use Rattle.corner.proofs.Common.{index_cases, three, eqb_mutual, common_symmetric, Points}
 
 -- ---- touching is mutual
 
@@ -98,6 +98,15 @@ point_told o l r t l' r' t' e =
     (sym (pair_sizes o l r).tells ∙ ap (r_at (o % 4)) q ∙ (pair_sizes o l' r').tells, sym (size_polar o t) ∙ ap nat_abs z ∙ size_polar o t')
 
 -- ---- the three corners of a cell
+
+-- they are points, three numbers each
+corner_points : (k o : ℕ) (f : Triangle) → Points (triangle_corners k o f)
+unfolding triangle_corners corner point_in
+corner_points k o (up a b) = λ i d h. index_cases (λ i. length (get_or (triangle_corners k o (up a b)) i d) ≡ 3) refl refl refl i h
+corner_points k o (down a b) = λ i d h. index_cases (λ i. length (get_or (triangle_corners k o (down a b)) i d) ≡ 3) refl refl refl i h
+
+pub points_corners : (k : ℕ) (p : Place) → Points (corners k p)
+points_corners k p = corner_points k p.0 p.1
 
 -- T and R of corner i: they lie in the octant, and tell i
 record Numbered (k o : ℕ) (f : Triangle) (x : Point) (n : ℕ) : Type 0 where

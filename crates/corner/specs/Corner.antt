@@ -1,10 +1,8 @@
 -- Corners as points, and touching (docs/RULES.md, 5). At level k, N is 2 ^ k.
 use Rattle.std.specs.Prelude.{ℕ, ◌+◌, ◌-◌, ◌%◌, ◌^◌, Bool, true, false, ◌&&◌, ◌||◌, not, cond, List, [], ◌∷◌, leb, eqb, ℤ, pos, negsuc, neg_ℤ, nat_abs, get_or}
-use Rattle.refusal.specs.Answer.{Answer, given, refused, in_order}
+use Rattle.refusal.specs.Answer.{Answer, in_order}
 use Rattle.refusal.specs.Tests.{bad_level}
 use Rattle.cell.specs.Cell.{Triangle, up, down, Place, place, max_level, bad_cell}
-use Rattle.corner.specs.declared.TouchAnswer.{TouchAnswer}
-use Rattle.corner.specs.declared.TouchAnswer.TheVariants as touch-answer
 
 -- ---- points
 
@@ -30,6 +28,10 @@ quarters plus minus l r = (plus l, plus r) ∷ (minus r, plus l) ∷ (minus l, m
 -- those of octant o: in the south as in the north
 unfoldable pub equatorial : {A : Type 0} → (ℕ → A) → (ℕ → A) → ℕ → ℕ → ℕ → A × A
 equatorial plus minus o l r = get_or (quarters plus minus l r) (o % 4) (plus l, plus r)
+
+-- the first of them as its sign and its size: whether it is negative, and which of L and R it has
+abbrev pub first_of : ℕ → ℕ → ℕ → Bool × ℕ
+first_of o l r = (equatorial (λ n. (false, n)) (λ n. (true, n)) o l r).0
 
 -- the third number: T, and in the south −T
 unfoldable pub polar : ℕ → ℕ → ℤ
@@ -78,9 +80,3 @@ touches k m n = not (eqb m n) && common (corners k (place k m)) (corners k (plac
 -- whether two cells touch: refused 1, 4
 abbrev pub touch_call : ℕ → ℕ → ℕ → Answer Bool
 touch_call k m n = in_order (bad_level max_level k ∷ bad_cell k m ∷ bad_cell k n ∷ []) (touches k m n)
-
--- what the code's answers say
-abbrev pub said_touch : TouchAnswer → Answer Bool
-said_touch touch-answer.Touch = given true
-said_touch touch-answer.NotTouching = given false
-said_touch (touch-answer.Refused n) = refused n

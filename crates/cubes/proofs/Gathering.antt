@@ -11,14 +11,38 @@ use lib.Dec.{leb, ltb, eqb}
 use lib.ListN.{length}
 use Rattle.refusal.specs.Answer.{refused}
 use Rattle.refusal.proofs.Answers.{given≢refused}
-use Rattle.cell.specs.Cell.{place, place_call, number, cells, max_level}
+use Rattle.cell.specs.declared.Kind.{Kind}
+use Rattle.cell.specs.declared.Kind.TheVariants.{Up, Down}
+use Rattle.cell.specs.Cell.{span, triangle_of, place, place_call, number, cells, max_level}
 use Rattle.cell.proofs.Answers.{accepts}
 use Rattle.adjacency.specs.declared.Cube.{Cube}
-use Rattle.adjacency.specs.Cube.{sum, cube_of, place_of_cube, moved_cube, touching_way, cell_along, with_cell, gathered}
+use Rattle.corner.specs.Corner.{first_of}
+use Rattle.corner.proofs.Octants.{first_signed}
+use Rattle.adjacency.specs.Cube.{side_of, equatorial_sides, sum, cube_of, place_of_cube, moved_cube, touching_way, cell_along, with_cell, gathered}
 use Rattle.adjacency.proofs.Cubes.{room_small, sum_cube}
 use Rattle.adjacency.proofs.Counts.{passes}
 use Rattle.adjacency.proofs.Listed.{along_way, here, few}
 use Rattle.cubes.specs.Cubes.{gather_call}
+
+-- ---- a triangle's span by the kind that the code has
+
+pub span_up : (kind : Kind) (a b : ℕ) → kind ≡ Up → span (triangle_of kind a b) ≡ a + b + 1
+unfolding span
+span_up kind a b e = rw e
+
+pub span_down : (kind : Kind) (a b : ℕ) → kind ≡ Down → span (triangle_of kind a b) ≡ a + b + 2
+unfolding span
+span_down kind a b e = rw e
+
+-- ---- the sides of an octant
+
+sign_of : (b : Bool) (n : ℕ) → side_of b n ≡ cond b (side_of true n) (side_of false n)
+sign_of true n = refl
+sign_of false n = refl
+
+-- the first, by its sign and its base
+pub first_side : (o l r : ℕ) (f : Bool × ℕ) → f ≡ first_of o l r → side_of f.0 f.1 ≡ (equatorial_sides o l r).0
+first_side o l r f e = rw e (sign_of (first_of o l r).0 (first_of o l r).1 ∙ first_signed (side_of false) (side_of true) l r o)
 
 -- ---- the ways
 

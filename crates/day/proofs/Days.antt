@@ -1,20 +1,19 @@
 -- What follows from the definitions of one day. Assumes nothing.
 use Prim.Native.Nat.{ℕ, zero, suc, ◌+◌, ◌≤◌, ◌<◌}
 use mathlib.Core.Path.{◌≡◌, refl, sym, ap, ap₂, ◌∙◌}
-use mathlib.Core.Bool.{Bool, true, false, ◌&&◌, ◌||◌, not, cond}
+use mathlib.Core.Bool.{Bool, true, false, ◌&&◌, cond}
 use mathlib.Core.List.{List, [], ◌∷◌, ◌++◌}
 use native.Mathlib.Numerals.{add-one}
 use native.Mathlib.Omega.{arith}
 use borrow.Author.Count.{below_none, below_more}
-use borrow.Author.Tests.{ne_eqb, eq-eqb, eqb-true}
-use lib.Dec.{ltb, eqb}
-use lib.Ieee as Ieee
+use borrow.Author.Tests.{eqb-true}
+use lib.Dec.{eqb}
 use lib.Ieee.{Float, nan}
 use lib.ListN.{length, get_or, set, length-append, get_or-append}
 use lib.Seq.{ext_get_or, get_or_at, get_or-set_same, get_or-set_other}
 use Rattle.bitset.specs.Bits.{size}
 use Rattle.bitset.proofs.Laws.{size_le}
-use Rattle.chart.specs.Chart.{in_range, Reading, fresh, carried, gap, max_days, reading_of, temperature_at, age_at, reading_at}
+use Rattle.chart.specs.Chart.{Reading, fresh, carried, gap, reading_of, temperature_at, age_at, reading_at}
 use Rattle.day.specs.Day.{nought, day_of, list_of, Summary, none_fresh, with_fresh, with_cell, summary_of, is_fresh}
 
 -- ---- the list of a function's values
@@ -60,32 +59,6 @@ abbrev pub leaves : Bool → Bool → Float → Float → ℕ → Float × ℕ
 leaves takes keeps new old age = cond takes (new, 0) (cond keeps (old, age + 1) (nought, 255))
 
 -- ---- the summary
-
-uncounted : (b : Bool) (s : Summary) (t : Float) (age : ℕ) → s ≡ with_cell s (cond b gap (carried t age))
-unfolding with_cell
-uncounted true s t age = refl
-uncounted false s t age = refl
-
--- a cell of another age than 0 does not count
-pub not_fresh : (s : Summary) (t : Float) (age : ℕ) → (age ≡ 0 → ⊥) → s ≡ with_cell s (reading_of t age)
-unfolding reading_of
-not_fresh s t age n = rw (ne_eqb age 0 n) (uncounted (ltb max_days age || not (in_range t)) s t age)
-
--- one of age 0 in range does
-pub counts : (s : Summary) (t : Float) (age : ℕ) → age ≡ 0 → in_range t ≡ true → with_fresh s t ≡ with_cell s (reading_of t age)
-unfolding reading_of with_cell
-counts s t age e i = simp (e, i)
-
--- the first fresh cell of all, and any other
-pub first_fresh : (s : Summary) (t : Float) → s.count ≡ 0 → record { count = 1; coldest = t; warmest = t } ≡ with_fresh s t
-unfolding with_fresh
-first_fresh s t e = rw (eq-eqb s.count 0 e)
-
-pub next_fresh : (s : Summary) (t lo hi : Float) → (s.count ≡ 0 → ⊥) →
-    lo ≡ cond (Ieee.lt t s.coldest) t s.coldest → hi ≡ cond (Ieee.lt s.warmest t) t s.warmest →
-    record { count = s.count + 1; coldest = lo; warmest = hi } ≡ with_fresh s t
-unfolding with_fresh
-next_fresh s t lo hi h p q = rw (ne_eqb s.count 0 h, p, q)
 
 pub summary_of_cong : (n : ℕ) (f g : ℕ → Reading) → ((c : ℕ) → c < n → f c ≡ g c) → summary_of n f ≡ summary_of n g
 unfolding summary_of

@@ -1,4 +1,3 @@
 pub mod Days
-pub mod Answers
 pub mod DayLaws
 pub mod Bounds

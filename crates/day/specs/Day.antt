@@ -3,15 +3,13 @@
 use Rattle.std.specs.Prelude.{ℕ, zero, suc, ◌+◌, ◌^◌, ◌<◌, Bool, true, false, ◌&&◌, not, cond, List, [], ◌∷◌, ◌++◌, ◌≡◌, leb, ltb, eqb, pos, Float}
 use Rattle.std.specs.Float.Ieee as Ieee
 use Rattle.std.specs.Float.{fin}
-use Rattle.refusal.specs.Answer.{Answer, given, refused, Test, ◌when◌, in_order, lending}
+use Rattle.refusal.specs.Answer.{Answer, Test, ◌when◌, in_order, lending}
 use Rattle.refusal.specs.Tests.{bad_level, bad_length}
 use Rattle.bitset.specs.Bits.{marked}
 use Rattle.cell.specs.Cell.{cells}
 use Rattle.mask.specs.Mask.{max_mask_level}
 use Rattle.chart.specs.Chart.{in_range, Reading, fresh, carried, gap, max_days, temperature_at, age_at, reading_at}
 use Rattle.day.specs.declared.Summary as declared
-use Rattle.day.specs.declared.DayAnswer.{DayAnswer}
-use Rattle.day.specs.declared.DayAnswer.TheVariants as day-answer
 
 -- ---- what a day leaves
 
@@ -136,10 +134,6 @@ day_call k d new clouds temps ages =
       ages = ages_after (cells k) d new clouds temps ages;
     })
 
--- what the code's values stand for
+-- how the code says the summary
 abbrev pub summary_is : declared.Summary → Summary
 summary_is s = record { count = s.count; coldest = s.coldest; warmest = s.warmest }
-
-abbrev pub said_day : DayAnswer → Answer Summary
-said_day (day-answer.Summed s) = given (summary_is s)
-said_day (day-answer.Refused n) = refused n

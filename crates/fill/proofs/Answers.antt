@@ -1,16 +1,13 @@
 -- What follows from the answers of filling. Assumes nothing.
 use Prim.Native.Nat.{ℕ, ◌^◌, ◌≤◌, ◌<◌}
-use mathlib.Core.Path.{◌≡◌, sym, ap, ◌∙◌}
+use mathlib.Core.Path.{◌≡◌, ap, ◌∙◌}
 use mathlib.Core.Bool.{false, not}
 use mathlib.Core.List.{List}
 use borrow.Author.Tests.{ltb-false, leb-false}
 use lib.ListN.{length}
-use Rattle.refusal.specs.Answer.{given, refused, in_order, done}
-use Rattle.refusal.proofs.Answers.{passed, lent_refused, lent_given}
+use Rattle.refusal.specs.Answer.{given, in_order, done}
+use Rattle.refusal.proofs.Answers.{passed, lent_given}
 use Rattle.refusal.proofs.Tests.{length_is}
-use Rattle.refusal.specs.Outcome.{said_outcome}
-use Rattle.refusal.specs.declared.Outcome.{Outcome}
-use Rattle.refusal.specs.declared.Outcome.TheVariants as outcome
 use Rattle.bitset.specs.Bits.{marked, bytes_of, outside}
 use Rattle.bitset.proofs.Laws.{length_bytes_of, marked_bytes_of, bytes_of_cong}
 use Rattle.cell.specs.Cell.{cells}
@@ -37,12 +34,7 @@ ready k a o out e =
       unmarked = search t;
     }
 
--- a call that its tests refuse leaves the slice
-pub fill_refused : (k : ℕ) (a : List ℕ) (o : ℕ) (out : List ℕ) (r : Outcome) (n : ℕ) → r ≡ outcome.Refused n →
-    said_outcome r ≡ in_order (fill_tests k a o out) done → (refused n, out) ≡ fill_call k a o out
-fill_refused k a o out r n e h = lent_refused (in_order (fill_tests k a o out) done) out _ n (sym (ap said_outcome e) ∙ h)
-
--- and any other writes what can't be reached
+-- a call that no test refuses writes what can't be reached
 pub fill_done : (k : ℕ) (a : List ℕ) (o : ℕ) (out reached l : List ℕ) → given done ≡ in_order (fill_tests k a o out) done →
     reached ≡ bytes_of (4 ^ k) (reachable k (marked a) o) → l ≡ bytes_of (length reached) (outside (marked reached)) →
     (given done, l) ≡ fill_call k a o out

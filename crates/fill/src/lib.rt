@@ -2,48 +2,48 @@
 #![tactic(auto)]
 
 ghost use Rattle.std.specs.Prelude.{◌≡◌};
-ghost use Rattle.refusal.specs.Answer.{done, in_order};
-ghost use Rattle.refusal.specs.Outcome.{said_outcome};
+ghost use Rattle.refusal.specs.Answer.{in_order};
+ghost use Rattle.refusal.specs.Refusal.{said_as, said_done};
 ghost use Rattle.fill.specs.Fill.{fill_tests, fill_call};
 
 use cell::CellNumber;
-use refusal::Outcome;
+use mask::MaskLevel;
+use refusal::Refusal;
 
 mod search;
 
 // Marks in `out` all cells but those that the outside cell reaches through cells that the border does not mark; so the border is marked too.
-pub fn fill(level: u32, border: &[u8], outside: CellNumber, out: &mut [u8]) -> Outcome
-    ensures { (said_outcome result, out.new) ≡ fill_call level border.now outside out.old }
+pub fn fill(level: u32, border: &[u8], outside: CellNumber, out: &mut [u8]) -> Result<(), Refusal>
+    ensures { (said_done result, out.new) ≡ fill_call level border.now outside out.old }
 {
-    match fill_tests(level, border, outside, out) {
-        Outcome::Refused(n) => Outcome::Refused(n),
-        Outcome::Done => {
-            search::reach_all(level, outside, border, out);
-            bitset::complement(out);
-            Outcome::Done
-        }
-    }
+    let level = fill_tests(level, border, outside, out)?;
+    search::reach_all(level, outside, border, out);
+    bitset::complement(out);
+    Ok(())
 }
 
-// The tests, in the order of their numbers.
-fn fill_tests(level: u32, border: &[u8], outside: CellNumber, out: &[u8]) -> Outcome
-    ensures { said_outcome result ≡ in_order (fill_tests level border.now outside out.now) done }
+// The tests, in the order of their numbers. Past them the level is one of masks.
+fn fill_tests(
+    level: u32,
+    border: &[u8],
+    outside: CellNumber,
+    out: &[u8],
+) -> Result<MaskLevel, Refusal>
+    ensures { said_as (λ l. l.k) result ≡ in_order (fill_tests level border.now outside out.now) level }
 {
-    if mask::MAX_MASK_LEVEL < level {
-        return Outcome::Refused(refusal::LEVEL);
+    let level = MaskLevel::new(level)?;
+    if !cell::is_cell(level.k, outside) {
+        return Err(Refusal::Cell);
     }
-    if !cell::is_cell(level, outside) {
-        return Outcome::Refused(refusal::CELL);
-    }
-    let bytes = 1 << (2 * level);
+    let bytes = 1 << (2 * level.k);
     if border.len() != bytes {
-        return Outcome::Refused(refusal::LENGTH);
+        return Err(Refusal::Length);
     }
     if out.len() != bytes {
-        return Outcome::Refused(refusal::LENGTH);
+        return Err(Refusal::Length);
     }
     if bitset::is_marked(border, outside) {
-        return Outcome::Refused(refusal::OUTSIDE);
+        return Err(Refusal::Outside);
     }
-    Outcome::Done
+    Ok(level)
 }

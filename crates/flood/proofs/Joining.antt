@@ -7,7 +7,7 @@ use mathlib.Core.Logic.{◌⊎◌, inl, inr, ⊎_elim}
 use native.Mathlib.Nat.{eq-or-lt_of_le, le_of_suc-le-suc}
 use native.Mathlib.Numerals.{add-one}
 use native.Mathlib.Omega.{arith}
-use borrow.Author.Tests.{eqb-true, eq-eqb, not-true}
+use borrow.Author.Tests.{eqb-true, eqb-false, eq-eqb, not-true}
 use lib.Bits.{bit_and, bit_or, or_lt, and_lt}
 use lib.Dec.{eqb}
 use lib.ListN.{length, get_or, set}
@@ -94,6 +94,17 @@ module _ (at near more : ℕ) (opened before : List ℕ) (em : more ≡ get_or o
           lit_set before at joined i (omega arith) ∙ rw (q, r) w.3,
         );
   }
+
+  -- and which of them it is, the code tells
+  pub joined_told : at < word_count → length before ≡ word_count → last < 2 ^ 64 → more < 2 ^ 64 → near < 2 ^ 64 →
+      Joined at near opened before (set before at joined) (not (eqb joined last))
+  joined_told h l hl hm hn = go (eqb joined last) refl
+    where
+      go : (b : Bool) → eqb joined last ≡ b → Joined at near opened before (set before at joined) (not b)
+      go true e =
+          let q = eqb-true joined last e in
+          subst (λ (s : List ℕ). Joined at near opened before s false) (sym (ap (set before at) q ∙ set-get_or before at 0)) (joined_same (omega arith) q)
+      go false e = joined_more h l hl hm hn (eqb-false joined last e)
 
 -- ---- the steps that a joined word takes
 

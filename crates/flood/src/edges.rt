@@ -1,11 +1,11 @@
-// Steps over the edges of the octants, cell by cell. Only up cells take them.
-ghost use Rattle.std.specs.Prelude.{List, ℕ, ◌^◌, ◌≤◌, ◌<◌};
-ghost use Rattle.mask.specs.Mask.{max_mask_level};
+// Steps over the edges of the octants, cell by cell. Only up cells take them. An octant is the number of the range in `reach_over`.
+ghost use Rattle.std.specs.Prelude.{List, ℕ, ◌^◌, ◌<◌};
 ghost use Rattle.rows.specs.Rows.{spot_count};
 ghost use Rattle.flood.specs.Flood.{Pair, Edges, EdgesOf, Over};
 ghost use Rattle.flood.specs.inside.Turns.{One, Turn};
 
 use crate::words;
+use mask::MaskLevel;
 use rows::Rows;
 
 // Reaches one spot, where it is open and another is reached. Answers whether that changed anything.
@@ -30,11 +30,11 @@ fn reach_pair(one: u32, other: u32, open_up: &Rows, up: &mut Rows) -> bool
 }
 
 // Reaches cells over an octant's edge to the east, in row n, and over the equator, in column n.
-fn reach_edges(level: u32, octant: u32, n: u32, open_up: &Rows, up: &mut Rows) -> bool
-    requires { (level ≤ max_mask_level) × (octant < 8) × (n < 2 ^ level) }
-    ensures { (od d : List ℕ) → Turn (Edges level octant n) open_up.now od up.old d up.new d result }
+fn reach_edges(level: MaskLevel, octant: u32, n: u32, open_up: &Rows, up: &mut Rows) -> bool
+    requires { (octant < 8) × (n < 2 ^ level.k) }
+    ensures { (od d : List ℕ) → Turn (Edges level.k octant n) open_up.now od up.old d up.new d result }
 {
-    let east_cell = rows::spot_of(octant, n, (1 << level) - 1 - n);
+    let east_cell = rows::spot_of(octant, n, (1 << level.k) - 1 - n);
     let east = reach_pair(
         east_cell,
         rows::spot_of(rows::east(octant), n, 0),
@@ -51,29 +51,24 @@ fn reach_edges(level: u32, octant: u32, n: u32, open_up: &Rows, up: &mut Rows) -
 }
 
 // Reaches cells over all of an octant's edge to the east and over the equator.
-fn reach_octant(level: u32, octant: u32, open_up: &Rows, up: &mut Rows) -> bool
-    requires { (level ≤ max_mask_level) × (octant < 8) }
-    ensures { (od d : List ℕ) → Turn (EdgesOf level octant (2 ^ level)) open_up.now od up.old d up.new d result }
+fn reach_octant(level: MaskLevel, octant: u32, open_up: &Rows, up: &mut Rows) -> bool
+    requires { octant < 8 }
+    ensures { (od d : List ℕ) → Turn (EdgesOf level.k octant (2 ^ level.k)) open_up.now od up.old d up.new d result }
 {
     let mut changed = false;
-    let mut n = 0;
-    while n < 1 << level {
-        changed = changed | reach_edges(level, octant, n, open_up, up);
-        n += 1;
+    for n in 0..1 << level.k {
+        changed |= reach_edges(level, octant, n, open_up, up);
     }
     changed
 }
 
 // Reaches cells over the edges of all octants. Answers whether that changed anything.
-pub(crate) fn reach_over(level: u32, open_up: &Rows, up: &mut Rows) -> bool
-    requires { level ≤ max_mask_level }
-    ensures { (od d : List ℕ) → Turn (Over level 8) open_up.now od up.old d up.new d result }
+pub(crate) fn reach_over(level: MaskLevel, open_up: &Rows, up: &mut Rows) -> bool
+    ensures { (od d : List ℕ) → Turn (Over level.k 8) open_up.now od up.old d up.new d result }
 {
     let mut changed = false;
-    let mut octant = 0;
-    while octant < rows::OCTANTS {
-        changed = changed | reach_octant(level, octant, open_up, up);
-        octant += 1;
+    for octant in 0..rows::OCTANTS {
+        changed |= reach_octant(level, octant, open_up, up);
     }
     changed
 }

@@ -4,12 +4,9 @@ use mathlib.Core.Path.{◌≡◌, sym, ap, ap₂, ◌∙◌}
 use mathlib.Core.List.{List}
 use borrow.Author.Tests.{ltb-false}
 use lib.ListN.{length}
-use Rattle.refusal.specs.Answer.{given, refused, in_order, lending, done}
-use Rattle.refusal.proofs.Answers.{passed, lent_refused, lent_given}
+use Rattle.refusal.specs.Answer.{Answer, given, refused, in_order, lending, done}
+use Rattle.refusal.proofs.Answers.{passed, given≢refused, lent_given}
 use Rattle.refusal.proofs.Tests.{length_is}
-use Rattle.refusal.specs.Outcome.{said_outcome}
-use Rattle.refusal.specs.declared.Outcome.{Outcome}
-use Rattle.refusal.specs.declared.Outcome.TheVariants as outcome
 use Rattle.bitset.specs.Bits.{marked, bytes_of}
 use Rattle.mask.specs.Mask.{max_mask_level}
 use Rattle.grow.specs.Grow.{max_rings, grown_cells, shrunk_cells, ring_tests, grow_call, shrink_call}
@@ -34,24 +31,21 @@ ready k m a out work e =
       rings = ltb-false max_rings m t.1.1.1.1.0;
     }
 
--- so they are where the tests answer that none refuses
-pub rings_ready : (k m : ℕ) (a out work : List ℕ) (r : Outcome) → r ≡ outcome.Done → said_outcome r ≡ in_order (ring_tests k m a out work) done →
-    (k ≤ max_mask_level) × (length a ≡ 4 ^ k) × (length out ≡ 4 ^ k) × (length work ≡ 4 ^ k)
-rings_ready k m a out work r e h =
-    let t = ready k m a out work (sym (ap said_outcome e) ∙ h) in (t.level, t.read, t.written, t.working)
+-- where the tests refuse, both slices stay, whatever would be written
+pub refused_alike : {S : Type 0} (answer : Answer (Unit {0})) (s before after other : S) (n : ℕ) → (refused n, s) ≡ lending answer before after → (refused n, s) ≡ lending answer before other
+refused_alike {S} (given a) s before after other n e = given≢refused (sym (ap (λ (p : Answer (Unit {0}) × S). p.0) e))
+refused_alike (refused m) s before after other n e = e
 
--- a call that its tests refuse leaves both slices
-pub rings_refused : (k m : ℕ) (a out work : List ℕ) (after : List ℕ × List ℕ) (r : Outcome) (n : ℕ) →
-    r ≡ outcome.Refused n → said_outcome r ≡ in_order (ring_tests k m a out work) done →
-    (refused n, (out, work)) ≡ lending {S = List ℕ × List ℕ} (in_order (ring_tests k m a out work) done) (out, work) after
-rings_refused k m a out work after r n e h = lent_refused (in_order (ring_tests k m a out work) done) (out, work) after n (sym (ap said_outcome e) ∙ h)
+-- and where they do not, both are as the call writes them
+pub prepared : {S : Type 0} (answer : Answer (Unit {0})) (s before after : S) → (given done, s) ≡ lending answer before after → (given done ≡ answer) × (s ≡ after)
+prepared {S} (given a) s before after e = (ap (λ (p : Answer (Unit {0}) × S). p.0) e, ap (λ (p : Answer (Unit {0}) × S). p.1) e)
+prepared {S} (refused n) s before after e = given≢refused (ap (λ (p : Answer (Unit {0}) × S). p.0) e)
 
--- and any other writes them
-pub rings_done : (k m : ℕ) (a out work o w o' w' : List ℕ) (r : Outcome) → r ≡ outcome.Done → said_outcome r ≡ in_order (ring_tests k m a out work) done →
+pub rings_done : (k m : ℕ) (a out work o w o' w' : List ℕ) → given done ≡ in_order (ring_tests k m a out work) done →
     o ≡ o' → w ≡ w' → (given done, (o, w)) ≡ lending {S = List ℕ × List ℕ} (in_order (ring_tests k m a out work) done) (out, work) (o', w')
-rings_done k m a out work o w o' w' r e h p q =
+rings_done k m a out work o w o' w' h p q =
     ap₂ (λ (x y : List ℕ). (given done, (x, y))) p q
-    ∙ lent_given (in_order (ring_tests k m a out work) done) (out, work) (o', w') done (sym (ap said_outcome e) ∙ h)
+    ∙ lent_given (in_order (ring_tests k m a out work) done) (out, work) (o', w') done h
 
 -- what the two calls write where they are not refused
 pub grown_bytes : (k m : ℕ) (a out work : List ℕ) → (grow_call k m a out work).0 ≡ given done →

@@ -18,7 +18,7 @@ use Rattle.mask.proofs.Laws.{lowest_none}
 
 -- a cell is no answer `within`
 lacks_some : {A : Type 0} {c : ℕ} → lacks c ≡ within → A
-lacks_some e = absurd (let z : ◌≡◌ {A = ℕ} 0 1 = cc in omega arith)
+lacks_some e = absurd (cc)
 
 -- where none is the lowest, none is in the set
 none_lowest : (P : ℕ → Bool) (j m : ℕ) → lowest P j m ≡ within → (c : ℕ) → m ≤ c → c < m + j → P c ≡ false

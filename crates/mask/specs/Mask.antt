@@ -1,13 +1,9 @@
 -- Masks (docs/RULES.md, 6): one bit a cell, so 4^k bytes for the 8 × 4^k cells of level k.
-use Rattle.std.specs.Prelude.{ℕ, zero, suc, ◌^◌, Bool, ◌&&◌, ◌||◌, not, cond, List, [], ◌∷◌}
-use Rattle.refusal.specs.Answer.{Answer, given, refused, Test, in_order, lending, done}
+use Rattle.std.specs.Prelude.{ℕ, zero, suc, ◌^◌, Bool, ◌&&◌, ◌||◌, not, cond, List, [], ◌∷◌, Option, Some, None}
+use Rattle.refusal.specs.Answer.{Answer, Test, in_order, lending, done}
 use Rattle.refusal.specs.Tests.{bad_level, bad_length}
 use Rattle.bitset.specs.Bits.{marked, bytes_of, size}
 use Rattle.cell.specs.Cell.{cells}
-use Rattle.mask.specs.declared.CountAnswer.{CountAnswer}
-use Rattle.mask.specs.declared.CountAnswer.TheVariants as count-answer
-use Rattle.mask.specs.declared.WithinAnswer.{WithinAnswer}
-use Rattle.mask.specs.declared.WithinAnswer.TheVariants as within-answer
 
 -- the highest level of masks and charts
 abbrev pub max_mask_level : ℕ
@@ -61,13 +57,7 @@ within_call k a b =
     in_order (bad_level max_mask_level k ∷ bad_length (4 ^ k) a ∷ bad_length (4 ^ k) b ∷ [])
     (lowest (difference (marked a) (marked b)) (cells k) 0)
 
--- ---- what the code's answers say
-
-abbrev pub said_count : CountAnswer → Answer ℕ
-said_count (count-answer.Count n) = given n
-said_count (count-answer.Refused n) = refused n
-
-abbrev pub said_within : WithinAnswer → Answer Inclusion
-said_within within-answer.Within = given within
-said_within (within-answer.Lacks c) = given (lacks c)
-said_within (within-answer.Refused n) = refused n
+-- how the code answers it: the cell where there is one
+abbrev pub inclusion_of : Option ℕ → Inclusion
+inclusion_of None = within
+inclusion_of (Some c) = lacks c

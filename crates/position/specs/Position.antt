@@ -1,11 +1,9 @@
 -- Positions and cells (docs/RULES.md, 2).
 -- Latitudes and longitudes are whole millionths of a degree. At level k, N is 2 ^ k.
 use Rattle.std.specs.Prelude.{ℕ, ◌+◌, ◌*◌, ◌-◌, ◌/◌, ◌%◌, ◌^◌, ◌≤◌, ◌<◌, Bool, cond, List, [], ◌∷◌, leb, ltb, eqb, ℤ, pos, negsuc, nat_abs, neg_ℤ, ◌+ℤ◌, get_or}
-use Rattle.refusal.specs.Answer.{Answer, given, refused, Test, ◌when◌, in_order}
+use Rattle.refusal.specs.Answer.{Answer, Test, ◌when◌, in_order}
 use Rattle.refusal.specs.Tests.{bad_level}
 use Rattle.cell.specs.Cell.{Triangle, up, down, Place, number, max_level}
-use Rattle.position.specs.declared.CellAnswer.{CellAnswer}
-use Rattle.position.specs.declared.CellAnswer.TheVariants as cell-answer
 
 -- a quarter of a turn
 abbrev pub q : ℕ
@@ -81,8 +79,3 @@ bad_longitude x = 3 when longitude_out x
 -- cell at a position: refused 1, 2, 3
 abbrev pub cell_call : ℕ → ℤ → ℤ → Answer ℕ
 cell_call k y x = in_order (bad_level max_level k ∷ bad_latitude y ∷ bad_longitude x ∷ []) (number k (place_at k y x))
-
--- what the code's answer says
-abbrev pub said_cell : CellAnswer → Answer ℕ
-said_cell (cell-answer.Number n) = given n
-said_cell (cell-answer.Refused n) = refused n

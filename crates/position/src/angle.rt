@@ -14,20 +14,14 @@ const HALF_TURN_WEST: i32 = -HALF_TURN;
 pub(crate) fn from_equator(latitude: Latitude) -> u64
     ensures { result ≡ nat_abs latitude.0 }
 {
-    let y = latitude.0;
-    if y < 0 { (-1 - y) as u64 + 1 } else { y as u64 }
+    u64::from(latitude.0.unsigned_abs())
 }
 
 // Whether a longitude is outside its range, −2q to 2q−1.
 pub(crate) fn longitude_out(longitude: Longitude) -> bool
     ensures { result ≡ longitude_out longitude.0 }
 {
-    let x = longitude.0;
-    if x < HALF_TURN_WEST {
-        true
-    } else {
-        HALF_TURN <= x
-    }
+    !(HALF_TURN_WEST..HALF_TURN).contains(&longitude.0)
 }
 
 // A longitude in range, counted east from −2q.

@@ -1,16 +1,16 @@
-// Masks as rows of bits, and back: up cells in one set of rows, down cells in another.
+// Masks as rows of bits, and back: up cells in one set of rows, down cells in another. A mask is a slice beside its level, with its length in the
+// contracts, as callers of the C interface lend it.
 #![tactic(auto)]
 
-ghost use Rattle.std.specs.Prelude.{◌≡◌, false, cond, ℕ, ◌/◌, ◌^◌, ◌≤◌, ◌<◌, length};
+ghost use Rattle.std.specs.Prelude.{◌≡◌, false, cond, ℕ, ◌/◌, ◌^◌, ◌<◌, length};
 ghost use Rattle.bitset.specs.Bits.{marked, bytes_of};
 ghost use Rattle.cell.specs.Cell.{Triangle};
-ghost use Rattle.mask.specs.Mask.{max_mask_level};
 ghost use Rattle.rows.specs.Rows.{lit};
 ghost use Rattle.raster.specs.Raster.{is_mask, cell_at, cell_lit};
 ghost use Rattle.raster.specs.inside.Pieces.{piece_size, piece_count, piece, Added, Marked};
 
-use refusal::Outcome;
-use rows::Rows;
+use mask::MaskLevel;
+use rows::CellRows;
 
 mod blocks;
 mod cells;
@@ -18,98 +18,87 @@ mod masks;
 mod words;
 
 // How many pieces a level's cells are taken in.
-fn piece_count(level: u32) -> u32
-    requires { level ≤ max_mask_level }
-    ensures { result ≡ piece_count level }
+fn piece_count(level: MaskLevel) -> u32
+    ensures { result ≡ piece_count level.k }
 {
-    if level < 3 {
-        8 << (2 * level)
+    if level.k < 3 {
+        8 << (2 * level.k)
     } else {
-        8 << (2 * (level - 3))
+        8 << (2 * (level.k - 3))
     }
 }
 
 // Sets the spots of the marked cells of one piece.
-fn put_piece(level: u32, n: u32, mask: &[u8], up: &mut Rows, down: &mut Rows)
-    requires { (level ≤ max_mask_level) × (n < piece_count level) × (length mask.now ≡ 4 ^ level) }
-    ensures ups { Added Triangle.up level (piece (piece_size level) n (marked mask.now)) up.old up.new }
-    ensures downs { Added Triangle.down level (piece (piece_size level) n (marked mask.now)) down.old down.new }
+fn put_piece(level: MaskLevel, n: u32, mask: &[u8], rows: &mut CellRows)
+    requires { (n < piece_count level.k) × (length mask.now ≡ 4 ^ level.k) }
+    ensures ups { Added Triangle.up level.k (piece (piece_size level.k) n (marked mask.now)) rows.old.up rows.new.up }
+    ensures downs { Added Triangle.down level.k (piece (piece_size level.k) n (marked mask.now)) rows.old.down rows.new.down }
 {
-    if level < 3 {
-        cells::put_marked(level, n, mask, up, down);
+    if level.k < 3 {
+        cells::put_marked(level, n, mask, rows);
     } else {
         let word = masks::word_at(mask, n);
         if word != 0 {
-            blocks::put_block(level, n, word, up, down);
+            blocks::put_block(level, n, word, rows);
         }
     }
 }
 
 // Sets the spots of all marked cells.
-fn put_pieces(level: u32, mask: &[u8], up: &mut Rows, down: &mut Rows)
-    requires { (level ≤ max_mask_level) × (length mask.now ≡ 4 ^ level) }
-    ensures ups { Added Triangle.up level (marked mask.now) up.old up.new }
-    ensures downs { Added Triangle.down level (marked mask.now) down.old down.new }
+fn put_pieces(level: MaskLevel, mask: &[u8], rows: &mut CellRows)
+    requires { length mask.now ≡ 4 ^ level.k }
+    ensures ups { Added Triangle.up level.k (marked mask.now) rows.old.up rows.new.up }
+    ensures downs { Added Triangle.down level.k (marked mask.now) rows.old.down rows.new.down }
 {
-    let count = piece_count(level);
-    let mut n = 0;
-    while n < count {
-        put_piece(level, n, mask, up, down);
-        n += 1;
+    for n in 0..piece_count(level) {
+        put_piece(level, n, mask, rows);
     }
 }
 
 // The cells that a mask of the level marks, each at its spot in the rows of its kind. Where the slice is no mask of the level, nothing is written.
-pub fn to_rows(level: u32, mask: &[u8], up: &mut Rows, down: &mut Rows)
-    ensures ups { (i : ℕ) → lit up.new i
-        ≡ cond (is_mask level mask.now) (cell_at Triangle.up level (marked mask.now) i) (lit up.old i) }
-    ensures downs { (i : ℕ) → lit down.new i
-        ≡ cond (is_mask level mask.now) (cell_at Triangle.down level (marked mask.now) i) (lit down.old i) }
+pub fn to_rows(level: u32, mask: &[u8], rows: &mut CellRows)
+    ensures ups { (i : ℕ) → lit rows.new.up i
+        ≡ cond (is_mask level mask.now) (cell_at Triangle.up level (marked mask.now) i) (lit rows.old.up i) }
+    ensures downs { (i : ℕ) → lit rows.new.down i
+        ≡ cond (is_mask level mask.now) (cell_at Triangle.down level (marked mask.now) i) (lit rows.old.down i) }
 {
-    match mask::is_mask(level, mask) {
-        Outcome::Done => {
-            *up = [0u64; rows::WORDS];
-            *down = [0u64; rows::WORDS];
-            put_pieces(level, mask, up, down);
-        }
-        Outcome::Refused(_) => {}
+    if mask::is_mask(level, mask).is_ok() {
+        rows.up = [0; rows::WORDS];
+        rows.down = [0; rows::WORDS];
+        put_pieces(MaskLevel { k: level }, mask, rows);
     }
 }
 
 // Marks the cells of one piece whose spots are set.
-fn take_piece(level: u32, n: u32, up: &Rows, down: &Rows, mask: &mut [u8])
-    requires level_le_max_mask_level { (level ≤ max_mask_level) × (n < piece_count level) × (length mask.old ≡ 4 ^ level) }
-    requires by_index { (c : ℕ) → c / piece_size level ≡ n → marked mask.old c ≡ false }
-    ensures { Marked (piece (piece_size level) n (cell_lit level up.now down.now)) mask.old mask.new }
+fn take_piece(level: MaskLevel, n: u32, rows: &CellRows, mask: &mut [u8])
+    requires in_mask { (n < piece_count level.k) × (length mask.old ≡ 4 ^ level.k) }
+    requires by_index { (c : ℕ) → c / piece_size level.k ≡ n → marked mask.old c ≡ false }
+    ensures { Marked (piece (piece_size level.k) n (cell_lit level.k rows.now.up rows.now.down)) mask.old mask.new }
 {
-    if level < 3 {
-        cells::take_cell(level, n, up, down, mask);
+    if level.k < 3 {
+        cells::take_cell(level, n, rows, mask);
     } else {
-        masks::store_word(mask, n, blocks::block_at(level, n, up, down));
+        masks::store_word(mask, n, blocks::block_at(level, n, rows));
     }
 }
 
 // Marks exactly the cells whose spots are set.
-fn take_pieces(level: u32, up: &Rows, down: &Rows, mask: &mut [u8])
-    requires { (level ≤ max_mask_level) × (length mask.old ≡ 4 ^ level) }
-    ensures { mask.new ≡ bytes_of (4 ^ level) (cell_lit level up.now down.now) }
+fn take_pieces(level: MaskLevel, rows: &CellRows, mask: &mut [u8])
+    requires { length mask.old ≡ 4 ^ level.k }
+    ensures { mask.new ≡ bytes_of (4 ^ level.k) (cell_lit level.k rows.now.up rows.now.down) }
 {
     bitset::clear(mask);
-    let count = piece_count(level);
-    let mut n = 0;
-    while n < count {
-        take_piece(level, n, up, down, mask);
-        n += 1;
+    for n in 0..piece_count(level) {
+        take_piece(level, n, rows, mask);
     }
 }
 
 // The mask of the level that marks the cells whose spots are set. Where the slice is no mask of the level, nothing is written.
-pub fn from_rows(level: u32, up: &Rows, down: &Rows, mask: &mut [u8])
+pub fn from_rows(level: u32, rows: &CellRows, mask: &mut [u8])
     ensures { mask.new
-        ≡ cond (is_mask level mask.old) (bytes_of (4 ^ level) (cell_lit level up.now down.now)) mask.old }
+        ≡ cond (is_mask level mask.old) (bytes_of (4 ^ level) (cell_lit level rows.now.up rows.now.down)) mask.old }
 {
-    match mask::is_mask(level, mask) {
-        Outcome::Done => take_pieces(level, up, down, mask),
-        Outcome::Refused(_) => {}
+    if mask::is_mask(level, mask).is_ok() {
+        take_pieces(MaskLevel { k: level }, rows, mask);
     }
 }

@@ -9,10 +9,8 @@ pub(crate) fn word_at(mask: &[u8], block: u32) -> u64
 {
     let first = 8 * (block as usize);
     let mut word = 0;
-    let mut i = 0;
-    while i < 8 {
-        word = word | ((mask[first + i] as u64) << (8 * i));
-        i += 1;
+    for i in 0..8 {
+        word |= (mask[first + i] as u64) << (8 * i);
     }
     word
 }
@@ -23,9 +21,7 @@ pub(crate) fn store_word(mask: &mut [u8], block: u32, word: u64)
     ensures { (c : ℕ) → marked mask.new c ≡ cond (eqb (c / 64) block) (bit word (c % 64)) (marked mask.old c) }
 {
     let first = 8 * (block as usize);
-    let mut i = 0;
-    while i < 8 {
+    for i in 0..8 {
         mask[first + i] = ((word >> (8 * i)) % 256) as u8;
-        i += 1;
     }
 }

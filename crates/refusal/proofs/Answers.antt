@@ -1,7 +1,7 @@
 -- What follows from an answer, once for every call: a given answer passed every test; a refused one has the number of the first test that
 -- applies, and leaves the slices; and a call whose tests begin with another's is refused where that one is. Assumes nothing.
 use Prim.Native.Nat.{ℕ}
-use mathlib.Core.Path.{◌≡◌, refl, sym, ap}
+use mathlib.Core.Path.{◌≡◌, refl, sym, ap, ◌∙◌}
 use mathlib.Core.Bool.{true, false}
 use mathlib.Core.List.{List, [], ◌∷◌, ◌++◌}
 use mathlib.Core.Logic.{inl, inr}
@@ -41,6 +41,10 @@ pub passed : {A : Type 0} (ts : List Test) (a b : A) → given b ≡ in_order ts
 passed [] a b e = (tt, given_same (sym e))
 passed ((n when true) ∷ ts) a b e = given≢refused e
 passed ((n when false) ∷ ts) a b e = let r = passed ts a b e in ((refl, r.0), r.1)
+
+-- so a call with the same tests, whose value is one of that value
+pub given_by : {A B : Type 0} (f : A → B) (ts : List Test) (a b : A) → given b ≡ in_order ts a → given (f b) ≡ in_order ts (f a)
+given_by {A} f ts a b e = let t = passed ts a b e in ap {A = A} (λ x. given (f x)) (sym t.1) ∙ gives ts (f a) t.0
 
 -- a refusal is by the first test that applies
 pub refuses : {A : Type 0} (ts : List Test) (a : A) (n : ℕ) → First n ts → refused n ≡ in_order ts a

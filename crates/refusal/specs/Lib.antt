@@ -1,3 +1,3 @@
 pub mod Answer
 pub mod Tests
-pub mod Outcome
+pub mod Refusal

@@ -1,16 +1,16 @@
 -- What the calls of the library come to on masks of level 5, and that no more of the input is wanted than is read. Assumes nothing.
-use Prim.Native.Nat.{ℕ, ◌-◌, ◌<◌}
+use Prim.Native.Nat.{ℕ, ◌<◌}
 use mathlib.Core.Path.{◌≡◌, refl, sym, ap, ap₂, ◌∙◌}
 use mathlib.Core.Bool.{Bool, true, false}
 use mathlib.Core.List.{List, [], ◌∷◌}
 use native.Mathlib.Omega.{arith}
 use borrow.Author.Tests.{ne_eqb, leb-true, leb-false}
 use lib.Dec.{leb}
-use lib.ListN.{length, take, drop, get_or, length-take, length-drop}
+use lib.ListN.{length, take, length-take}
 use lib.Seq.{take_all}
-use Rattle.refusal.specs.Answer.{Answer, given, refused, Test, in_order, done}
+use Rattle.refusal.specs.Answer.{Answer, given, Test, in_order, done}
 use Rattle.refusal.specs.Tests.{bad_level, bad_length}
-use Rattle.refusal.proofs.Answers.{passed, gives, passed_on, same_refusal, length_refused, length_passed}
+use Rattle.refusal.proofs.Answers.{passed, gives, passed_on}
 use Rattle.refusal.proofs.Tests.{length_passes}
 use Rattle.bitset.specs.Bits.{marked, size}
 use Rattle.bitset.proofs.Laws.{marked_bytes_of, size_cong}
@@ -42,28 +42,6 @@ module _ (m : ℕ) (a o w : List ℕ) (la : length a ≡ 1024) (lo : length o �
       let G = grown_cells 5 m (marked a) in
       let s = eq ∙ ap (λ (l : List ℕ). size (cells 5) (marked l)) b ∙ size_cong (cells 5) (marked _) G (marked_bytes_of 1024 G) in
       ap₂ (λ (i j : ℕ). given (i, j)) ep s ∙ gives (bad_rings m ∷ []) (counts m a) (passed (bad_rings m ∷ []) done done (g ∙ sym (only_rings done))).0
-
-  -- or refused
-  pub refused_too : (n : ℕ) (s : List ℕ × List ℕ) → (refused n, s) ≡ grow_call 5 m a o w → refused n ≡ in_order (bad_rings m ∷ []) (counts m a)
-  refused_too n s e =
-      let g = ap (λ (r : Answer (Unit {0}) × (List ℕ × List ℕ)). r.0) e in
-      same_refusal (bad_rings m ∷ []) [] done (counts m a) n (g ∙ sym (only_rings done))
-
--- an input of another length is refused, and of any other the rings and the mask decide
-pub other_length : (input : List ℕ) → (length input ≡ input_bytes → ⊥) → refused 5 ≡ ring_counts input
-other_length input n = length_refused input_bytes input (bad_rings (get_or input 0 0) ∷ []) (counts (get_or input 0 0) (drop 1 input)) n
-
-pub right_length : (input mask : List ℕ) (r : Answer (ℕ × ℕ)) → length input ≡ input_bytes → mask ≡ drop 1 input →
-    r ≡ in_order (bad_rings (get_or input 0 0) ∷ []) (counts (get_or input 0 0) mask) → r ≡ ring_counts input
-right_length input mask r e m h =
-    let m₀ = get_or input 0 0 in
-    h
-    ∙ ap (λ (l : List ℕ). in_order (bad_rings m₀ ∷ []) (counts m₀ l)) m
-    ∙ length_passed input_bytes input (bad_rings m₀ ∷ []) (counts m₀ (drop 1 input)) e
-
--- the mask is what follows the first byte
-pub mask_copied : (input m : List ℕ) → length input ≡ input_bytes → m ≡ take (length input - 1) (drop 1 input) → m ≡ drop 1 input
-mask_copied input m e h = h ∙ take_all (length input - 1) (drop 1 input) (simp length-drop (omega arith))
 
 -- of a longer input the first n bytes, n above what it may have, are judged as the whole
 pub front_decides : (n : ℕ) (input : List ℕ) → input_bytes < n → output (take n input) ≡ output input

@@ -6,8 +6,6 @@ use Rattle.bitset.specs.Bits.{marked, size}
 use Rattle.cell.specs.Cell.{cells}
 use Rattle.grow.specs.Grow.{grown_cells, bad_rings}
 use Rattle.text.specs.Text.{decimal, refusal_line}
-use Rattle.ring_counter.specs.declared.CountsAnswer.{CountsAnswer}
-use Rattle.ring_counter.specs.declared.CountsAnswer.TheVariants as counts-answer
 
 -- the length of a sound input: the rings in one byte, then a mask of level 5, which is 1,024 bytes
 abbrev pub input_bytes : ℕ
@@ -33,8 +31,3 @@ output input = line (ring_counts input)
 -- the first bytes of the input, which decide what is printed: one more than it may have
 abbrev pub front_bytes : ℕ
 front_bytes = 1026
-
--- what the code's answer says
-abbrev pub said_counts : CountsAnswer → Answer (ℕ × ℕ)
-said_counts (counts-answer.Counts before after) = given (before, after)
-said_counts (counts-answer.Refused n) = refused n

@@ -4,14 +4,12 @@
 
 ghost use Rattle.std.specs.Prelude.{ℕ, ◌≤◌, ◌≡◌, length, take, List, [], ◌∷◌};
 ghost use Rattle.refusal.specs.Answer.{in_order};
+ghost use Rattle.refusal.specs.Refusal.{said};
 ghost use Rattle.io.specs.Counts.{IsPrefixLen};
-ghost use Rattle.bitset.specs.Bits.{marked, size};
-ghost use Rattle.cell.specs.Cell.{cells};
 ghost use Rattle.grow.specs.Grow.{bad_rings};
-ghost use Rattle.ring_counter.specs.RingCounter.{counts, ring_counts, line, output, said_counts, front_bytes};
+ghost use Rattle.ring_counter.specs.RingCounter.{counts, ring_counts, line, output, front_bytes};
 
-use mask::CountAnswer;
-use refusal::Outcome;
+use refusal::Refusal;
 
 const LEVEL: u32 = 5;
 
@@ -26,42 +24,24 @@ const STDIN: i32 = 0;
 
 const STDOUT: i32 = 1;
 
-// The cells marked before growing and after it, or the number by which the input is refused.
-#[derive(Drop)]
-enum CountsAnswer {
-    Counts(u32, u32),
-    Refused(u8),
-}
-
-// How many cells of a mask of level 5 are marked.
-fn marked_cells(mask: &[u8]) -> u32
-    requires { length mask.now ≡ 1024 }
-    ensures { result ≡ size (cells 5) (marked mask.now) }
-{
-    match mask::count(LEVEL, mask) {
-        CountAnswer::Count(n) => n,
-        CountAnswer::Refused(_) => 0,
-    }
-}
-
-// What growing a mask of level 5 by a number of rings comes to.
-fn grown_counts(rings: u8, mask: &[u8; 1024]) -> CountsAnswer
-    ensures { said_counts result ≡ in_order (bad_rings rings ∷ []) (counts rings mask.now) }
+// The cells that a mask of level 5 marks, before growing by a number of rings and after it.
+fn grown_counts(rings: u8, mask: &[u8; 1024]) -> Result<(u32, u32), Refusal>
+    ensures { said result ≡ in_order (bad_rings rings ∷ []) (counts rings mask.now) }
 {
     let mut grown = [0u8; 1024];
     let mut work = [0u8; 1024];
-    match grow::grow(LEVEL, rings as u32, mask, &mut grown, &mut work) {
-        Outcome::Done => CountsAnswer::Counts(marked_cells(mask), marked_cells(&grown)),
-        Outcome::Refused(n) => CountsAnswer::Refused(n),
-    }
+    grow::grow(LEVEL, u32::from(rings), mask, &mut grown, &mut work)?;
+    let before = mask::count(LEVEL, mask)?;
+    let after = mask::count(LEVEL, &grown)?;
+    Ok((before, after))
 }
 
 // What the input comes to.
-fn outcome_of(input: &[u8]) -> CountsAnswer
-    ensures { said_counts result ≡ ring_counts input.now }
+fn outcome_of(input: &[u8]) -> Result<(u32, u32), Refusal>
+    ensures { said result ≡ ring_counts input.now }
 {
     if input.len() != INPUT {
-        return CountsAnswer::Refused(refusal::LENGTH);
+        return Err(Refusal::Length);
     }
     let mut mask = [0u8; 1024];
     mask.copy_from_slice(&input[1..]);
@@ -69,18 +49,18 @@ fn outcome_of(input: &[u8]) -> CountsAnswer
 }
 
 // Puts the line of an outcome into a slice, and answers its length.
-fn put_line(outcome: CountsAnswer, out: &mut [u8; 64]) -> usize
+fn put_line(outcome: Result<(u32, u32), Refusal>, out: &mut [u8; 64]) -> usize
     ensures fits { IsPrefixLen result out.new }
-    ensures text { take result out.new ≡ line (said_counts outcome) }
+    ensures text { take result out.new ≡ line (said outcome) }
 {
     match outcome {
-        CountsAnswer::Counts(before, after) => {
-            let a = text::append_decimal(out, 0, before as u64);
+        Ok((before, after)) => {
+            let a = text::append_decimal(out, 0, u64::from(before));
             let b = text::append(out, a, b" ");
-            let c = text::append_decimal(out, b, after as u64);
+            let c = text::append_decimal(out, b, u64::from(after));
             text::append(out, c, b"\n")
         }
-        CountsAnswer::Refused(n) => text::append_refusal(out, 0, n),
+        Err(refusal) => text::append_refusal(out, 0, refusal.number()),
     }
 }
 

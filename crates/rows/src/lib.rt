@@ -12,6 +12,13 @@ pub const WORDS: usize = 10330;
 // One set of rows.
 pub type Rows = [u64; WORDS];
 
+// Cells in rows: up cells in one set of rows, down cells in another.
+#[derive(Drop)]
+pub struct CellRows {
+    pub up: Rows,
+    pub down: Rows,
+}
+
 // The bits of one set of rows.
 const SPOTS: u32 = 661120;
 
@@ -30,17 +37,12 @@ pub const CELLS_END: usize = 10320;
 // The number of octants.
 pub const OCTANTS: u32 = 8;
 
-// The spot of an octant's row and column. Where there is no such row or column, that is the first past all bits.
+// The spot of an octant's row and column. Where there is no such row or column, that is the first past all bits. An Option would be no plainer: a
+// spot past all bits is one that `is_set` finds clear and `set_bit` leaves, so that no caller has to ask.
 pub fn spot_of(octant: u32, row: u32, col: u32) -> u32
     ensures { result ≡ spot_in octant row col }
 {
-    if OCTANTS <= octant {
-        return SPOTS;
-    }
-    if OCTANT_ROWS <= row {
-        return SPOTS;
-    }
-    if ROW_SPOTS <= col {
+    if OCTANTS <= octant || OCTANT_ROWS <= row || ROW_SPOTS <= col {
         return SPOTS;
     }
     (OCTANT_ROWS * octant + row + 2) * ROW_SPOTS + col
@@ -57,12 +59,10 @@ pub fn east(octant: u32) -> u32
 pub fn is_set(rows: &Rows, spot: u32) -> bool
     ensures { result ≡ lit rows.now spot }
 {
-    let at = (spot / 64) as usize;
-    let words: &[u64] = rows;
-    if words.len() <= at {
-        return false;
+    match rows.get((spot / 64) as usize) {
+        Some(word) => (word >> (spot % 64)) % 2 == 1,
+        None => false,
     }
-    (words[at] >> (spot % 64)) % 2 == 1
 }
 
 // Sets a bit. Past the end there is none to set.
@@ -70,25 +70,20 @@ pub fn set_bit(rows: &mut Rows, spot: u32)
     ensures { (i : ℕ) → lit rows.new i ≡ (lit rows.old i || (eqb i spot && ltb i spot_count)) }
 {
     let at = (spot / 64) as usize;
-    let words: &mut [u64] = rows;
-    if words.len() <= at {
-        return;
+    if at < WORDS {
+        rows[at] |= 1 << (spot % 64);
     }
-    words[at] = words[at] | (1 << (spot % 64));
 }
 
 // One word. Past the end it is 0.
 pub fn word(rows: &Rows, at: usize) -> u64
     ensures { result ≡ get_or rows.now at 0 }
 {
-    let words: &[u64] = rows;
-    if words.len() <= at {
-        return 0;
-    }
-    words[at]
+    rows.get(at).copied().unwrap_or(0)
 }
 
-// A word with each bit one place on; the first place takes the last bit of the word before.
+// A word with each bit one place on; the first place takes the last bit of the word before. One function for this and the next, by a direction, would be
+// longer than both.
 pub fn one_on(word: u64, before: u64) -> u64
     ensures { OneOn word before result }
 {

@@ -1,7 +1,6 @@
 -- The four groups of pairs: the two spots of a pair are of one point, and no spot is in two pairs of a group. Assumes nothing.
 use Prim.Native.Nat.{ℕ, ◌+◌, ◌*◌, ◌-◌, ◌/◌, ◌%◌, ◌^◌, ◌≤◌, ◌<◌}
-use mathlib.Core.Path.{◌≡◌, sym, ap, ap₂, subst, ◌∙◌}
-use mathlib.Core.Bool.{Bool}
+use mathlib.Core.Path.{◌≡◌, sym, ap, ◌∙◌}
 use native.Mathlib.Omega.{arith}
 use Rattle.corner.specs.Corner.{corner}
 use Rattle.corner.proofs.Laws.{equator, meridian}
@@ -11,7 +10,7 @@ use Rattle.rows.proofs.Spots.{spot_octant, spot_row, spot_col, spot_same, small,
 use Rattle.seam.specs.Seam.{point_at}
 use Rattle.seam.specs.declared.edges.Edge.{Edge}
 use Rattle.seam.specs.declared.edges.Edge.TheVariants.{Meridian, Beside, Across, Equator}
-use Rattle.seam.specs.inside.Pairs.{join_pair, first_of, second_of, count_of}
+use Rattle.seam.specs.inside.Pairs.{first_of, second_of, count_of}
 use Rattle.seam.proofs.Pairs.{Apart}
 use Rattle.seam.proofs.Joining.{Same}
 
@@ -67,19 +66,6 @@ group_same k h Across x l =
 group_same k h Equator x l =
     same-spots k (x % 4) 0 (x / 4) (x % 4 + 4) 0 (x / 4) h (omega arith) (omega arith) (omega arith) (omega arith)
     (equator_corner k (x % 4) (x / 4) (omega arith))
-
--- ---- a group that a test has told
-
--- the pair is one of that group
-pub told : (e e' : Edge) (n x : ℕ) → e ≡ e' → x < count_of e n → x < count_of e' n
-told e e' n x t = subst (λ (g : Edge). x < count_of g n) t
-
--- two spots joined are a pair of the group where they are its two spots
-pub named :
-    (e e' : Edge) (n x p q : ℕ) (P : ℕ → Bool) → e ≡ e' → p ≡ first_of e' n x → q ≡ second_of e' n x
-    → join_pair p q P ≡ join_pair (first_of e n x) (second_of e n x) P
-named e e' n x p q P t a b =
-    ap₂ (λ (i j : ℕ). join_pair i j P) (a ∙ ap (λ (g : Edge). first_of g n x) (sym t)) (b ∙ ap (λ (g : Edge). second_of g n x) (sym t))
 
 -- ---- apart
 

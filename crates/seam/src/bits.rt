@@ -12,9 +12,7 @@ pub(crate) fn join_bits(points: &mut Rows, first: u32, second: u32)
 {
     if rows::is_set(points, first) {
         rows::set_bit(points, second);
-        return;
-    }
-    if rows::is_set(points, second) {
+    } else if rows::is_set(points, second) {
         rows::set_bit(points, first);
     }
 }

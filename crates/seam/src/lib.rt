@@ -9,7 +9,8 @@ ghost use Rattle.seam.specs.Seam.{joined};
 mod bits;
 mod edges;
 
-use edges::Edge;
+use edges::{Edge, Group};
+use mask::MaskLevel;
 use rows::Rows;
 
 // Sets every bit of each point of which a bit is set. Above level 8 nothing is done.
@@ -18,12 +19,11 @@ pub fn join_seams(level: u32, points: &mut Rows)
         lit points.new i
         ≡ cond (leb level max_mask_level) (joined level (lit points.old) i) (lit points.old i) }
 {
-    if mask::MAX_MASK_LEVEL < level {
+    let Ok(level) = MaskLevel::new(level) else {
         return;
-    }
-    let size = 1 << level;
-    edges::join_edge(Edge::Meridian, size, points);
-    edges::join_edge(Edge::Beside, size, points);
-    edges::join_edge(Edge::Across, size, points);
-    edges::join_edge(Edge::Equator, size, points);
+    };
+    Group::of_level(Edge::Meridian, level).join(points);
+    Group::of_level(Edge::Beside, level).join(points);
+    Group::of_level(Edge::Across, level).join(points);
+    Group::of_level(Edge::Equator, level).join(points);
 }

@@ -7,28 +7,13 @@ use mathlib.Core.Logic.{⊎_elim}
 use native.Mathlib.Nat.{mod-lt}
 use native.Mathlib.Omega.{arith}
 use borrow.Author.Tests.{ltb-true, ltb-false, leb-true, leb-false, eqb-true}
-use lib.Bits.{bit_and, bit_or}
 use lib.Dec.{leb, ltb, eqb}
 use lib.Pow.{pow_pos}
 use Rattle.refusal.proofs.Tests.{parts, cases, clash}
 use Rattle.bitset.specs.Bits.{bit}
 use Rattle.bitset.proofs.Laws.{bit_past, bit_or_lem}
+use Rattle.square.specs.inside.Words.{Word, input, kept, raised, lowered, joined, value}
 use Rattle.rows.proofs.Words.{bit_and_lem, bit_shr, shl_high, shl_low}
-
--- a word over numbered inputs
-pub data Word : Type 0 where
-  input : ℕ → Word
-  kept : Word → ℕ → Word
-  raised : Word → ℕ → Word
-  lowered : Word → ℕ → Word
-  joined : Word → Word → Word
-
-unfoldable pub value : (ℕ → ℕ) → Word → ℕ
-value e (input n) = e n
-value e (kept w m) = bit_and (value e w) m
-value e (raised w s) = value e w * 2 ^ s % 2 ^ 64
-value e (lowered w s) = value e w / 2 ^ s
-value e (joined w x) = bit_or (value e w) (value e x)
 
 -- the bits that bit p is joined of: bit b of input n is 64 × n + b
 unfoldable pub sources : Word → ℕ → List ℕ

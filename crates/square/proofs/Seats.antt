@@ -15,23 +15,9 @@ use Rattle.cell.specs.Cell.{Triangle, up, down, row, col, child, children, trian
 use Rattle.walk.specs.Reach.{all_below}
 use Rattle.walk.proofs.Reach.{all_at}
 use Rattle.square.specs.Square.{quarter_of, seat, kind_of, squares, seat_bit, Scattered, Gathered}
-use Rattle.square.proofs.Moves.{Word, input, kept, raised, lowered, joined, value, value_bit, sources, input_bit}
+use Rattle.square.specs.inside.Words.{Word, input, kept, raised, lowered, joined, value, by4, by8, by16, by32, exchanged, block_up, block_down, up_from, down_from, up_four, down_four}
+use Rattle.square.proofs.Moves.{value_bit, sources, input_bit}
 use Rattle.square.proofs.Moves.{same_list, one_source, two_sources, at_most_one, at_most_one_lem}
-
--- ---- masks that repeat
-
--- every 4, 8, 16 and 32 bits
-abbrev by4 : ℕ → ℕ
-by4 m = m * 1229782938247303441
-
-abbrev by8 : ℕ → ℕ
-by8 m = m * 72340172838076673
-
-abbrev by16 : ℕ → ℕ
-by16 m = m * 281479271743489
-
-abbrev by32 : ℕ → ℕ
-by32 m = m * 4294967297
 
 -- ---- rows and quarters
 
@@ -44,18 +30,14 @@ one_bit : (x : ℕ) → x < 2 ^ 64 → (w : Word) (p q : ℕ) → q < 64 → sam
 unfolding input_bit
 one_bit x h w p q l e = value_bit (λ n. x) (λ n. h) w p ∙ one_source (input_bit (λ n. x)) (sources w p) q e ∙ ap (bit x) (mod-eq_of_lt l)
 
--- bits s apart exchanged
-abbrev exchanged : ℕ → ℕ → ℕ → ℕ → Word → Word
-exchanged s keep low high w = joined (joined (kept w keep) (kept (lowered w s) low)) (kept (raised w s) high)
-
 abbrev by_eights : Word → Word
-by_eights w = exchanged 8 (by32 4278190335) (by32 65280) (by32 16711680) w
+by_eights w = exchanged 8 (by32 65280) w
 
 abbrev by_twos : Word → Word
-by_twos w = exchanged 2 (by8 195) (by8 12) (by8 48) w
+by_twos w = exchanged 2 (by8 12) w
 
 abbrev by_fours : Word → Word
-by_fours w = exchanged 4 (by16 61455) (by16 240) (by16 3840) w
+by_fours w = exchanged 4 (by16 240) w
 
 abbrev rows_word : Word
 rows_word = by_fours (by_twos (by_eights (input 0)))
@@ -97,13 +79,7 @@ same_triangle_lem (down a b) (down c d) e = let p = parts (eqb a c) (eqb b d) e 
 abbrev seat_at : Kind → ℕ → ℕ
 seat_at t j = quarter_of (8 * row (seat t j) + col (seat t j))
 
--- the children of an up cell and of a down cell, put where they lie: x are up children, y are down ones
-abbrev in_up : ℕ → ℕ → ℕ → ℕ → ℕ → Word → Word → Word
-in_up two one high middle low x y = joined (joined (kept (lowered x two) high) (kept (raised x one) middle)) (kept y low)
-
-abbrev in_down : ℕ → ℕ → ℕ → Word → Word → Word
-in_down three high low x y = joined (kept (raised x three) high) (kept y low)
-
+-- the cells of a kind in fours that are up cells, and in fours that are down cells
 abbrev four_up : Kind → Word
 four_up Up = joined (kept (lowered (input 0) 2) (by4 3)) (kept (raised (input 0) 1) (by4 4))
 four_up Down = kept (input 0) (by4 1)
@@ -112,15 +88,9 @@ abbrev four_down : Kind → Word
 four_down Up = kept (raised (input 0) 3) (by4 8)
 four_down Down = kept (input 0) (by4 14)
 
-abbrev sixteen_up : Kind → Word
-sixteen_up s = in_up 8 4 (by16 255) (by16 3840) (by16 15) (four_up s) (four_down s)
-
-abbrev sixteen_down : Kind → Word
-sixteen_down s = in_down 12 (by16 61440) (by16 65520) (four_up s) (four_down s)
-
 abbrev scatter_word : Kind → Kind → Word
-scatter_word Up s = in_up 32 16 4294967295 281470681743360 65535 (sixteen_up s) (sixteen_down s)
-scatter_word Down s = in_down 48 18446462598732840960 18446744073709486080 (sixteen_up s) (sixteen_down s)
+scatter_word Up s = block_up (four_up s) (four_down s)
+scatter_word Down s = block_down (four_up s) (four_down s)
 
 -- each seat has its cell for its one source, and each bit at most one, whose seat it is
 abbrev at_test : Kind → ℕ → Bool
@@ -198,27 +168,14 @@ four_below m a b c d ha hb hc hd (suc zero) = hb
 four_below m a b c d ha hb hc hd (suc (suc zero)) = hc
 four_below m a b c d ha hb hc hd (suc (suc (suc n))) = hd
 
--- the up children and the down children of up cells x and down cells y
-abbrev up_from : ℕ → ℕ → ℕ → ℕ → ℕ → ℕ → Word → Word → Word
-up_from two one three high middle low x y = joined (joined (kept (raised x two) high) (kept (lowered x one) middle)) (kept (lowered y three) low)
+abbrev up_fours : Kind → Word
+up_fours s = up_four (input (input_of Up s)) (input (input_of Down s))
 
-abbrev down_from : ℕ → ℕ → Word → Word → Word
-down_from low high x y = joined (kept x low) (kept y high)
-
-abbrev up_sixteen : Kind → Word
-up_sixteen s = up_from 32 16 48 18446744069414584320 4294901760 65535 (input (input_of Up s)) (input (input_of Down s))
-
-abbrev down_sixteen : Kind → Word
-down_sixteen s = down_from 65535 18446744073709486080 (input (input_of Up s)) (input (input_of Down s))
-
-abbrev up_four : Kind → Word
-up_four s = up_from 8 4 12 (by16 65280) (by16 240) (by16 15) (up_sixteen s) (down_sixteen s)
-
-abbrev down_four : Kind → Word
-down_four s = down_from (by16 15) (by16 65520) (up_sixteen s) (down_sixteen s)
+abbrev down_fours : Kind → Word
+down_fours s = down_four (input (input_of Up s)) (input (input_of Down s))
 
 abbrev gather_word : Word
-gather_word = joined (up_from 2 1 3 (by4 12) (by4 2) (by4 1) (up_four Up) (down_four Up)) (down_from (by4 1) (by4 14) (up_four Down) (down_four Down))
+gather_word = joined (up_from 2 1 3 (by4 12) (by4 2) (by4 1) (up_fours Up) (down_fours Up)) (down_from (by4 1) (by4 14) (up_fours Down) (down_fours Down))
 
 abbrev seat_source : Kind → ℕ → ℕ
 seat_source t j = 64 * input_of t (kind_of (seat t j)) + seat_at t j

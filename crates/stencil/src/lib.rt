@@ -1,11 +1,12 @@
-// Shifts and unions of whole rows of bits: the points of cells, the cells of points, and the points near points, word by word.
+// Shifts and unions of whole rows of bits: the points of cells, the cells of points, and the points near points, word by word. The loops are as short as
+// calls of one function that took the word as a closure would be.
 #![tactic(auto)]
 
 ghost use Rattle.std.specs.Prelude.{◌≡◌, ◌&&◌, cond, ℕ, leb};
 ghost use Rattle.rows.specs.Rows.{lit, inside};
 ghost use Rattle.stencil.specs.Stencil.{points_of, up_of, down_of, near_of, in_rows, in_cell_rows};
 
-use rows::Rows;
+use rows::{CellRows, Rows};
 
 mod words;
 
@@ -16,30 +17,26 @@ const POINTS_END: usize = 10325;
 const MAX_LEVEL: u32 = 8;
 
 // Writes the points of cells: those that are corners of one.
-pub fn points_of(up: &Rows, down: &Rows, points: &mut Rows)
+pub fn points_of(cells: &CellRows, points: &mut Rows)
     ensures { (i : ℕ) →
         lit points.new i
-        ≡ cond (in_rows i) (points_of (lit up.now) (lit down.now) i) (lit points.old i) }
+        ≡ cond (in_rows i) (points_of (lit cells.now.up) (lit cells.now.down) i) (lit points.old i) }
 {
-    let mut w = rows::FIRST;
-    while w < POINTS_END {
-        words::put(points, w, words::points_word(up, down, w));
-        w += 1;
+    for w in rows::FIRST..POINTS_END {
+        points[w] = words::points_word(cells, w);
     }
 }
 
 // Writes the cells of points: those with a corner among them.
-pub fn cells_of(points: &Rows, up: &mut Rows, down: &mut Rows)
+pub fn cells_of(points: &Rows, cells: &mut CellRows)
     ensures ups { (i : ℕ) →
-        lit up.new i ≡ cond (in_cell_rows i) (up_of (lit points.now) i) (lit up.old i) }
+        lit cells.new.up i ≡ cond (in_cell_rows i) (up_of (lit points.now) i) (lit cells.old.up i) }
     ensures downs { (i : ℕ) →
-        lit down.new i ≡ cond (in_cell_rows i) (down_of (lit points.now) i) (lit down.old i) }
+        lit cells.new.down i ≡ cond (in_cell_rows i) (down_of (lit points.now) i) (lit cells.old.down i) }
 {
-    let mut w = rows::FIRST;
-    while w < rows::CELLS_END {
-        words::put(up, w, words::up_word(points, w));
-        words::put(down, w, words::down_word(points, w));
-        w += 1;
+    for w in rows::FIRST..rows::CELLS_END {
+        cells.up[w] = words::up_word(points, w);
+        cells.down[w] = words::down_word(points, w);
     }
 }
 
@@ -49,10 +46,8 @@ pub fn near(points: &Rows, within: &Rows, out: &mut Rows)
         lit out.new i
         ≡ cond (in_rows i) (lit within.now i && near_of (lit points.now) i) (lit out.old i) }
 {
-    let mut w = rows::FIRST;
-    while w < POINTS_END {
-        words::put(out, w, rows::word(within, w) & words::near_word(points, w));
-        w += 1;
+    for w in rows::FIRST..POINTS_END {
+        out[w] = within[w] & words::near_word(points, w);
     }
 }
 
@@ -63,9 +58,7 @@ pub fn mark_inside(level: u32, out: &mut Rows)
     if MAX_LEVEL < level {
         return;
     }
-    let mut w = 0;
-    while w < rows::WORDS {
-        words::put(out, w, words::inside_word(level, w));
-        w += 1;
+    for w in 0..rows::WORDS {
+        out[w] = words::inside_word(level, w);
     }
 }

@@ -1,31 +1,24 @@
-// One word of each set that is written: its 64 bits from words of the sets that are read.
+// One word of each set that is written: its 64 bits from words of the sets that are read. The bounds of a word's place are those of the range that it
+// comes from: a type for such places would be made once in each loop and taken apart at once.
 ghost use Rattle.std.specs.Prelude.{◌≡◌, ℕ, ◌≤◌, ◌<◌, ltb, length, set};
 ghost use Rattle.bitset.specs.Bits.{bit};
 ghost use Rattle.rows.specs.Rows.{lit, word_count, first_word, cells_end, inside};
 ghost use Rattle.rows.specs.Words.{WordOf};
 ghost use Rattle.stencil.specs.Stencil.{points_end, points_of, up_of, down_of, near_of};
 
-use rows::Rows;
-
-// Stores one word.
-pub(crate) fn put(words: &mut [u64], w: usize, value: u64)
-    requires { w < length words.old }
-    ensures { words.new ≡ set words.old w value }
-{
-    words[w] = value;
-}
+use rows::{CellRows, Rows};
 
 // The points of cells in one word.
-pub(crate) fn points_word(up: &Rows, down: &Rows, w: usize) -> u64
+pub(crate) fn points_word(cells: &CellRows, w: usize) -> u64
     requires { (first_word ≤ w) × (w < points_end) }
-    ensures { WordOf result (points_of (lit up.now) (lit down.now)) w }
+    ensures { WordOf result (points_of (lit cells.now.up) (lit cells.now.down)) w }
 {
-    let up_here = rows::word(up, w);
-    let up_last = rows::word(up, w - 5);
-    let up_on = rows::one_on(up_here, rows::word(up, w - 1));
-    let down_last = rows::word(down, w - 5);
-    let down_on = rows::one_on(rows::word(down, w), rows::word(down, w - 1));
-    let both = rows::one_on(down_last, rows::word(down, w - 6));
+    let up_here = rows::word(&cells.up, w);
+    let up_last = rows::word(&cells.up, w - 5);
+    let up_on = rows::one_on(up_here, rows::word(&cells.up, w - 1));
+    let down_last = rows::word(&cells.down, w - 5);
+    let down_on = rows::one_on(rows::word(&cells.down, w), rows::word(&cells.down, w - 1));
+    let both = rows::one_on(down_last, rows::word(&cells.down, w - 6));
     up_here | (up_last | (up_on | (down_last | (down_on | both))))
 }
 
@@ -69,7 +62,7 @@ fn low_ones(count: u32) -> u64
     ensures { (j : ℕ) → j < 64 → bit result j ≡ ltb j count }
 {
     if 64 <= count {
-        return 18446744073709551615;
+        return u64::MAX;
     }
     (1 << count) - 1
 }

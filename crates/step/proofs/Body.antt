@@ -1,23 +1,34 @@
--- What the code computes by: N as it shifts it, one less, its tests, and its places compared field by field.
+-- What the code computes by: N as it shifts it, one less, its tests, the places that it compares and the codes that it reads.
 -- Assumes nothing.
-use Prim.Native.Nat.{ℕ, zero, suc, ◌*◌, ◌-◌, ◌%◌, ◌^◌, ◌≤◌, ◌<◌}
+use Prim.Native.Nat.{ℕ, zero, suc, ◌*◌, ◌-◌, ◌%◌, ◌^◌, ◌≤◌}
 use mathlib.Core.Bool.{true, not, false≢true}
-use mathlib.Core.Logic.{◌↔◌}
 use mathlib.Core.Option.{none, some}
 use mathlib.Core.Path.{◌≡◌, refl, ap}
 use native.Mathlib.Omega.{arith}
 use lib.Dec.{leb, ltb, eqb}
 use lib.Pow.{pow_mono}
-use borrow.Author.Tests.{eqb-true, le-leb, eq-eqb, ne_eqb}
-use Rattle.refusal.proofs.Tests.{parts, same_test}
-use Rattle.cell.specs.Cell.{Triangle, down, span, Place, number, Occurs, triangle_of, place_of, max_level}
+use borrow.Author.Tests.{eqb-true, le-leb, eq-eqb, ne_eqb, leb-true}
+use Rattle.std.proofs.Common.{rules, Option, Some, None}
+use Rattle.std.specs.Option.{option_eq}
+use Rattle.refusal.proofs.Tests.{same_test}
+use Rattle.cell.specs.Cell.{Triangle, span, Place, number, Occurs, triangle_of, place_of, max_level}
 use Rattle.cell.specs.declared.Kind.{Kind}
 use Rattle.cell.specs.declared.Kind.TheVariants.{Up, Down}
 use Rattle.cell.specs.declared.Place as declared
+use Rattle.cell.specs.contracts.KindPartialEq.TheImpl.{eq-value as kind-eq}
+use Rattle.cell.specs.contracts.PlacePartialEq.TheImpl.{eq-value as place-eq}
 use Rattle.cell.proofs.Laws.{shifted}
-use Rattle.code.specs.Step.{less, found_if, inside, steps, step, leads_to}
-use Rattle.step.specs.inside.Target.{same_kind, same_place}
-use Rattle.code.proofs.Laws.{code_cases, one_place}
+use Rattle.code.specs.Step.{less, found_if, inside, leads_to, step_call}
+use Rattle.code.proofs.Laws.{one_place, past_seven}
+use Rattle.code.proofs.Calls.{given_step}
+use Rattle.cell.proofs.Answers.{Given}
+use Rattle.refusal.specs.Answer.{given, refused, ◌when◌, in_order, First}
+use Rattle.refusal.proofs.Answers.{passed, first}
+use mathlib.Core.List.{[], ◌∷◌}
+use mathlib.Core.Logic.{inl, inr}
+use Rattle.step.specs.inside.Code.{code_of}
+use Rattle.step.specs.inside.Target.{target_of}
+use Rattle.step.specs.declared.Code.{Code}
 
 -- N as the code shifts it
 pub rows_shifted : (k : ℕ) → k ≤ max_level → 1 * 2 ^ k % 2 ^ 32 ≡ 2 ^ k
@@ -37,58 +48,43 @@ inside_less k o (suc m) g h = let e : suc m - 1 ≡ m = omega arith in rw (e, le
 pub inside_test : (k n m : ℕ) → k ≤ max_level → m ≡ suc n → leb m (2 ^ k) ≡ ltb n (1 * 2 ^ k % 2 ^ 32)
 inside_test k n m h e = rw (rows_shifted k h, e)
 
--- a down cell has none of the steps T, E, W
-pub down_stays : (k o a b c : ℕ) → 4 < c → step k (o, down a b) c ≡ none
-unfolding step steps
-down_stays k o a b = code_cases (λ (c : ℕ). 4 < c → step k (o, down a b) c ≡ none)
-    (λ h. absurd (omega arith))
-    (λ h. absurd (omega arith))
-    (λ h. absurd (omega arith))
-    (λ h. absurd (omega arith))
-    (λ h. absurd (omega arith))
-    (λ h. refl)
-    (λ h. refl)
-    (λ h. refl)
-    (λ c h. refl)
+-- ---- places that the code compares
 
--- ---- places that agree in each field
-
--- the kinds of two triangles of one row and column tell them apart
-triangles_same : (s t : Kind) (a b : ℕ) → same_kind s t ≡ true → triangle_of s a b ≡ triangle_of t a b
-triangles_same Up Up a b e = refl
-triangles_same Up Down a b e = absurd (false≢true e)
-triangles_same Down Up a b e = absurd (false≢true e)
-triangles_same Down Down a b e = refl
-
-kinds_same : (s t : Kind) (a b a' b' : ℕ) → triangle_of s a b ≡ triangle_of t a' b' → (eqb a a' ≡ true) × (eqb b b' ≡ true) × (same_kind s t ≡ true)
+-- the kinds of two triangles tell them apart
+kinds_same : (s t : Kind) (a b a' b' : ℕ) → triangle_of s a b ≡ triangle_of t a' b' → (eqb a a' ≡ true) × (eqb b b' ≡ true) × (kind-eq.it s t ≡ true)
 kinds_same Up Up a b a' b' e = (eq-eqb a a' (cc), eq-eqb b b' (cc), refl)
 kinds_same Up Down a b a' b' e = absurd (false≢true (cc))
 kinds_same Down Up a b a' b' e = absurd (false≢true (cc))
 kinds_same Down Down a b a' b' e = (eq-eqb a a' (cc), eq-eqb b b' (cc), refl)
 
--- two places of the code agree in each field exactly where they are one place
-agree : (p q : declared.Place) → (same_place p q ≡ true) ↔ (place_of p ≡ place_of q)
-agree p q = (to, from)
-  where
-    to : same_place p q ≡ true → place_of p ≡ place_of q
-    to e =
-        let x = parts _ _ e in
-        let y = parts _ _ x.0 in
-        let z = parts _ _ y.0 in
-        let o = eqb-true p.octant q.octant z.0 in
-        let a = eqb-true p.row q.row z.1 in
-        let b = eqb-true p.col q.col y.1 in
-        let f : (place_of p).1 ≡ (place_of q).1 = rw (a, b) (triangles_same p.kind q.kind q.row q.col x.1) in
-        λ i. (o i, f i)
+-- two places of the code are equal exactly where they are one place
+same_value : (p q : declared.Place) → place-eq.it p q ≡ true → p ≡ q
+same_value p q e = search rules
 
-    from : place_of p ≡ place_of q → same_place p q ≡ true
-    from e =
-        let f = kinds_same p.kind q.kind p.row p.col q.row q.col (ap (λ (r : Place). r.1) e) in
-        simp (eq-eqb p.octant q.octant (ap (λ (r : Place). r.0) e), f.0, f.1, f.2)
+same_fields : (p q : declared.Place) → place_of p ≡ place_of q → place-eq.it p q ≡ true
+same_fields p q e =
+    let f = kinds_same p.kind q.kind p.row p.col q.row q.col (ap (λ (r : Place). r.1) e) in
+    simp (eq-eqb p.octant q.octant (ap (λ (r : Place). r.0) e), f.0, f.1, f.2)
 
 -- so the code need not compare numbers
-pub same_leads : (k : ℕ) (p q : declared.Place) → Occurs k (place_of p) → Occurs k (place_of q) →
-    same_place p q ≡ leads_to k (number k (place_of q)) (some (place_of p))
-same_leads k p q h g = same_test _ _
-    (λ e. eq-eqb _ _ (ap (number k) ((agree p q).0 e)))
-    (λ e. (agree p q).1 (one_place k (place_of p) (place_of q) h g (eqb-true _ _ e)))
+pub same_leads : (k : ℕ) (s : Option declared.Place) (q : declared.Place) →
+    ((p : Place) → target_of s ≡ some p → Occurs k p) → Occurs k (place_of q) →
+    option_eq place-eq.it s (Some q) ≡ leads_to k (number k (place_of q)) (target_of s)
+same_leads k None q h g = refl
+same_leads k (Some p) q h g = same_test _ _
+    (λ e. eq-eqb _ _ (ap (λ p. number k (place_of p)) (same_value p q e)))
+    (λ e. same_fields p q (one_place k (place_of p) (place_of q) (h _ refl) g (eqb-true _ _ e)))
+
+-- ---- codes that the code reads
+
+-- a number that is read is that of the code
+pub read_code : (code : Code) (n : ℕ) → given (code_of code) ≡ in_order (7 when leb 8 n ∷ []) n → n ≡ code_of code
+read_code code n e = (passed (7 when leb 8 n ∷ []) n (code_of code) e).1
+
+-- where a number is not read, there is no step along it
+pub no_code_read : (k n c m : ℕ) (p : Place) → Given k n p → refused m ≡ in_order (7 when leb 8 c ∷ []) c → refused m ≡ step_call k n c
+no_code_read k n c m p g e = go (first (7 when leb 8 c ∷ []) c m e)
+  where
+    go : First m (7 when leb 8 c ∷ []) → refused m ≡ step_call k n c
+    go (inl f) = rw f.1 (given_step k n c p none g (past_seven k p c (leb-true 8 c f.0)))
+    go (inr f) = absurd f.1

@@ -1,4 +1,4 @@
-// Printed text, put into a slice piece by piece.
+// Printed text, put into a slice piece by piece: slice and place side by side, as the contract of `append` has them.
 #![tactic(auto)]
 
 ghost use Rattle.std.specs.Prelude.{◌≡◌};

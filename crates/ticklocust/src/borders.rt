@@ -3,8 +3,7 @@ ghost use Rattle.std.specs.Prelude.{◌≡◌};
 ghost use Rattle.border.specs.Border.{read_border, write_border};
 ghost use Rattle.c_values.specs.Values.{told_lent};
 
-use border_reader::BorderAnswer;
-use border_writer::LengthAnswer;
+use crate::told;
 
 #[unsafe(no_mangle)]
 pub extern "C" fn ticklocust_border_read(
@@ -17,12 +16,12 @@ pub extern "C" fn ticklocust_border_read(
         ≡ told_lent (read_border bytes.now cells.old) (level.old, count.old) }
 {
     match border_reader::read(bytes, cells) {
-        BorderAnswer::Read(k, n) => {
-            *level = k;
-            *count = n;
+        Ok(border) => {
+            *level = border.level;
+            *count = border.count;
             0
         }
-        BorderAnswer::Refused(n) => n as u32,
+        Err(refusal) => refusal as u32,
     }
 }
 
@@ -36,11 +35,5 @@ pub extern "C" fn ticklocust_border_write(
     ensures { ((result, length.new), bytes.new)
         ≡ told_lent (write_border level cells.now bytes.old) length.old }
 {
-    match border_writer::write(level, cells, bytes) {
-        LengthAnswer::Written(n) => {
-            *length = n;
-            0
-        }
-        LengthAnswer::Refused(n) => n as u32,
-    }
+    told::tell(border_writer::write(level, cells, bytes), length)
 }

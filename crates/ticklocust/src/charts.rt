@@ -4,9 +4,9 @@ ghost use Rattle.chart.specs.Chart.{reading_call};
 ghost use Rattle.day.specs.Day.{day_call};
 ghost use Rattle.c_values.specs.Values.{told, told_lent, in_c, kind_temperature_days};
 
-use chart::ReadingAnswer;
-use day::DayAnswer;
+use chart::Reading;
 
+// The kinds are numbers in the C interface.
 const FRESH: u32 = 0;
 
 const CARRIED: u32 = 1;
@@ -31,26 +31,26 @@ pub extern "C" fn ticklocust_reading(
         (kind.old, temperature.old, days.old) }
 {
     match chart::reading_of(level, temperatures, ages, cell) {
-        ReadingAnswer::Fresh(t) => {
+        Ok(Reading::Fresh(t)) => {
             *kind = FRESH;
             *temperature = t;
             *days = 0;
             0
         }
-        ReadingAnswer::Carried(t, d) => {
+        Ok(Reading::Carried(t, d)) => {
             *kind = CARRIED;
             *temperature = t;
             *days = d as u32;
             0
         }
-        ReadingAnswer::Gap => {
+        Ok(Reading::Gap) => {
             *kind = GAP;
             // A NaN: a caller who doesn't test the kind gets no temperature either. A constant can't be a NaN.
             *temperature = 0.0 / 0.0;
             *days = NO_DAYS;
             0
         }
-        ReadingAnswer::Refused(n) => n as u32,
+        Err(refusal) => refusal as u32,
     }
 }
 
@@ -74,12 +74,12 @@ pub extern "C" fn ticklocust_day(
         (record { count = count.entry.now; coldest = coldest.old; warmest = warmest.old }) }
 {
     match day::day(level, limit, news, cloud, temperatures, ages) {
-        DayAnswer::Summed(summary) => {
+        Ok(summary) => {
             *count = summary.count;
             *coldest = summary.coldest;
             *warmest = summary.warmest;
             0
         }
-        DayAnswer::Refused(n) => n as u32,
+        Err(refusal) => refusal as u32,
     }
 }

@@ -6,14 +6,14 @@ mod borders;
 mod charts;
 mod masks;
 mod steps;
+mod told;
 
 ghost use Rattle.std.specs.Prelude.{◌≡◌};
 ghost use Rattle.position.specs.Position.{cell_call};
 ghost use Rattle.centre.specs.Centre.{centre_call};
 ghost use Rattle.c_values.specs.Values.{told};
 
-use centre::CentreAnswer;
-use position::{CellAnswer, Latitude, Longitude};
+use position::{Latitude, Longitude};
 
 #[unsafe(no_mangle)]
 pub extern "C" fn ticklocust_cell_at(
@@ -24,13 +24,10 @@ pub extern "C" fn ticklocust_cell_at(
 ) -> u32
     ensures { (result, cell.new) ≡ told (cell_call level latitude longitude) cell.old }
 {
-    match position::cell_at(level, Latitude(latitude), Longitude(longitude)) {
-        CellAnswer::Number(n) => {
-            *cell = n;
-            0
-        }
-        CellAnswer::Refused(n) => n as u32,
-    }
+    told::tell(
+        position::cell_at(level, Latitude(latitude), Longitude(longitude)),
+        cell,
+    )
 }
 
 #[unsafe(no_mangle)]
@@ -44,13 +41,11 @@ pub extern "C" fn ticklocust_centre(
         ≡ told (centre_call level cell) (latitude.old, longitude.old) }
 {
     match centre::centre_of(level, cell) {
-        CentreAnswer::At(north, east) => {
-            let y = north.0;
-            let x = east.0;
+        Ok((Latitude(y), Longitude(x))) => {
             *latitude = y;
             *longitude = x;
             0
         }
-        CentreAnswer::Refused(n) => n as u32,
+        Err(refusal) => refusal as u32,
     }
 }

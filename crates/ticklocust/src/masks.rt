@@ -5,8 +5,7 @@ ghost use Rattle.grow.specs.Grow.{grow_call, shrink_call};
 ghost use Rattle.fill.specs.Fill.{fill_call};
 ghost use Rattle.c_values.specs.Values.{told, returned, in_c, lacking_cell};
 
-use mask::{CountAnswer, WithinAnswer};
-use refusal::Outcome;
+use crate::told;
 
 // What `within` answers when every cell of the first mask is in the second.
 const WITHIN: u32 = cell::NO_CELL;
@@ -22,10 +21,7 @@ pub extern "C" fn ticklocust_grow(
     ensures { (result, (out.new, work.new))
         ≡ returned (grow_call level rings mask.now out.old work.old) }
 {
-    match grow::grow(level, rings, mask, out, work) {
-        Outcome::Done => 0,
-        Outcome::Refused(n) => n as u32,
-    }
+    told::status(grow::grow(level, rings, mask, out, work))
 }
 
 #[unsafe(no_mangle)]
@@ -39,33 +35,21 @@ pub extern "C" fn ticklocust_shrink(
     ensures { (result, (out.new, work.new))
         ≡ returned (shrink_call level rings mask.now out.old work.old) }
 {
-    match grow::shrink(level, rings, mask, out, work) {
-        Outcome::Done => 0,
-        Outcome::Refused(n) => n as u32,
-    }
+    told::status(grow::shrink(level, rings, mask, out, work))
 }
 
 #[unsafe(no_mangle)]
 pub extern "C" fn ticklocust_join(level: u32, a: &[u8], b: &[u8], out: &mut [u8]) -> u32
     ensures { (result, out.new) ≡ returned (join_call level a.now b.now out.old) }
 {
-    match mask::join(level, a, b, out) {
-        Outcome::Done => 0,
-        Outcome::Refused(n) => n as u32,
-    }
+    told::status(mask::join(level, a, b, out))
 }
 
 #[unsafe(no_mangle)]
 pub extern "C" fn ticklocust_count(level: u32, mask: &[u8], count: &mut u32) -> u32
     ensures { (result, count.new) ≡ told (count_call level mask.now) count.old }
 {
-    match mask::count(level, mask) {
-        CountAnswer::Count(n) => {
-            *count = n;
-            0
-        }
-        CountAnswer::Refused(n) => n as u32,
-    }
+    told::tell(mask::count(level, mask), count)
 }
 
 #[unsafe(no_mangle)]
@@ -73,25 +57,13 @@ pub extern "C" fn ticklocust_within(level: u32, a: &[u8], b: &[u8], lacking: &mu
     ensures { (result, lacking.new)
         ≡ told (in_c lacking_cell (within_call level a.now b.now)) lacking.old }
 {
-    match mask::within(level, a, b) {
-        WithinAnswer::Within => {
-            *lacking = WITHIN;
-            0
-        }
-        WithinAnswer::Lacks(cell) => {
-            *lacking = cell;
-            0
-        }
-        WithinAnswer::Refused(n) => n as u32,
-    }
+    let answer = mask::within(level, a, b).map(|cell| cell.unwrap_or(WITHIN));
+    told::tell(answer, lacking)
 }
 
 #[unsafe(no_mangle)]
 pub extern "C" fn ticklocust_fill(level: u32, border: &[u8], outside: u32, out: &mut [u8]) -> u32
     ensures { (result, out.new) ≡ returned (fill_call level border.now outside out.old) }
 {
-    match fill::fill(level, border, outside, out) {
-        Outcome::Done => 0,
-        Outcome::Refused(n) => n as u32,
-    }
+    told::status(fill::fill(level, border, outside, out))
 }

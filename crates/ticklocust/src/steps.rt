@@ -4,40 +4,27 @@ ghost use Rattle.code.specs.Step.{step_call, code_call};
 ghost use Rattle.adjacency.specs.Touch.{list_call};
 ghost use Rattle.c_values.specs.Values.{told, told_lent};
 
-use step::{CodeAnswer, StepAnswer};
-use touch::ListAnswer;
+use crate::told;
 
 // A code as a byte: one that no byte holds is above 7, as 255 is.
 fn code_byte(code: u32) -> u8
     ensures { (result ≡ code) ⊎ ((7 < result) × (7 < code)) }
 {
-    if code < 256 { code as u8 } else { 255 }
+    u8::try_from(code).unwrap_or(255)
 }
 
 #[unsafe(no_mangle)]
 pub extern "C" fn ticklocust_step(level: u32, cell: u32, code: u32, to: &mut u32) -> u32
     ensures { (result, to.new) ≡ told (step_call level cell code) to.old }
 {
-    match step::step_along(level, cell, code_byte(code)) {
-        StepAnswer::To(n) => {
-            *to = n;
-            0
-        }
-        StepAnswer::Refused(n) => n as u32,
-    }
+    told::tell(step::step_along(level, cell, code_byte(code)), to)
 }
 
 #[unsafe(no_mangle)]
 pub extern "C" fn ticklocust_code(level: u32, from: u32, to: u32, code: &mut u32) -> u32
     ensures { (result, code.new) ≡ told (code_call level from to) code.old }
 {
-    match step::code_between(level, from, to) {
-        CodeAnswer::Along(c) => {
-            *code = c as u32;
-            0
-        }
-        CodeAnswer::Refused(n) => n as u32,
-    }
+    told::tell(step::code_between(level, from, to).map(u32::from), code)
 }
 
 #[unsafe(no_mangle)]
@@ -49,11 +36,5 @@ pub extern "C" fn ticklocust_touching(
 ) -> u32
     ensures { ((result, count.new), cells.new) ≡ told_lent (list_call level cell cells.old) count.old }
 {
-    match touch::touching_cells(level, cell, cells) {
-        ListAnswer::Count(n) => {
-            *count = n as u32;
-            0
-        }
-        ListAnswer::Refused(n) => n as u32,
-    }
+    told::tell(touch::touching_cells(level, cell, cells), count)
 }

@@ -1,12 +1,14 @@
--- Tests that are computed for all numbers below a bound, and the steps of the twelve ways as the code's words have them. Assumes nothing.
-use Prim.Native.Nat.{ℕ, zero, suc, ◌+◌, ◌*◌, ◌/◌, ◌%◌, ◌^◌, ◌≤◌, ◌<◌}
+-- Tests that are computed for all numbers below a bound, and the steps of the twelve ways as the code's tables have them. Assumes nothing.
+use Prim.Native.Nat.{ℕ, zero, suc, ◌+◌, ◌/◌, ◌%◌, ◌≤◌, ◌<◌}
 use mathlib.Core.Path.{◌≡◌, refl, sym, ap, ◌∙◌}
 use mathlib.Core.Bool.{Bool, true, false, ◌&&◌, not}
+use mathlib.Core.List.{List, [], ◌∷◌}
 use mathlib.Core.Logic.{⊎_elim}
 use native.Mathlib.Nat.{eq-or-lt_of_le, le_of_suc-le-suc}
 use native.Mathlib.Omega.{arith}
 use borrow.Author.Tests.{leb-true, eqb-true}
 use lib.Dec.{eqb, leb}
+use lib.ListN.{get_or}
 use Rattle.refusal.proofs.Tests.{parts, clash}
 use Rattle.cell.specs.declared.Kind.{Kind}
 use Rattle.cell.specs.declared.Kind.TheVariants.{Up, Down}
@@ -49,15 +51,23 @@ same_told false false e = refl
 
 -- ---- the steps of way i
 
--- the code's words
+-- the code's table
+abbrev ways : List (ℕ × ℕ × Bool)
+ways =
+    (0, 0, true) ∷ (0, 1, true) ∷ (0, 1, false) ∷ (0, 2, true) ∷ (0, 2, false) ∷ (1, 0, true)
+    ∷ (1, 0, false) ∷ (1, 1, true) ∷ (1, 2, false) ∷ (2, 0, true) ∷ (2, 0, false) ∷ (2, 1, false) ∷ []
+
+abbrev way : ℕ → ℕ × ℕ × Bool
+way i = get_or ways i (0, 0, false)
+
 abbrev pub row_step : ℕ → ℕ
-row_step i = 11097088 / 2 ^ (2 * i) % 4
+row_step i = (way i).0
 
 abbrev pub col_step : ℕ → ℕ
-col_step i = 4342420 / 2 ^ (2 * i) % 4
+col_step i = (way i).1
 
-abbrev pub turn : ℕ → ℕ
-turn i = 683 / 2 ^ i % 2
+abbrev pub turn : ℕ → Bool
+turn i = (way i).2
 
 -- the steps on the three axes together
 abbrev steps : ℕ → ℕ
@@ -68,7 +78,7 @@ pub record Steps (t : Kind) (i : ℕ) : Type 0 where
   pub col_small : col_step i ≤ 2
   pub rows : inner_step t (row_step i) ≡ inner_way t i / 9
   pub cols : inner_step t (col_step i) ≡ inner_way t i / 3 % 3
-  pub turns : eqb (turn i) 0 ≡ eqb (steps (inner_way t i)) 3
+  pub turns : not (turn i) ≡ eqb (steps (inner_way t i)) 3
 
 step_test : Kind → ℕ → Bool
 step_test t i =
@@ -76,7 +86,7 @@ step_test t i =
     && leb (col_step i) 2
     && eqb (inner_step t (row_step i)) (inner_way t i / 9)
     && eqb (inner_step t (col_step i)) (inner_way t i / 3 % 3)
-    && same (eqb (turn i) 0) (eqb (steps (inner_way t i)) 3)
+    && same (not (turn i)) (eqb (steps (inner_way t i)) 3)
 
 steps_tested : (t : Kind) → all (step_test t) 12 ≡ true
 unfolding all step_test same inner_step inner_way inner_ways
@@ -89,11 +99,11 @@ steps_at t i h =
     let w = inner_way t i in
     let r = eqb (inner_step t (row_step i)) (w / 9) in
     let c = eqb (inner_step t (col_step i)) (w / 3 % 3) in
-    let p = five (leb (row_step i) 2) (leb (col_step i) 2) r c (same (eqb (turn i) 0) (eqb (steps w) 3)) (all_at (step_test t) 12 (steps_tested t) i h) in
+    let p = five (leb (row_step i) 2) (leb (col_step i) 2) r c (same (not (turn i)) (eqb (steps w) 3)) (all_at (step_test t) 12 (steps_tested t) i h) in
     record {
       row_small = leb-true (row_step i) 2 p.0;
       col_small = leb-true (col_step i) 2 p.1;
       rows = eqb-true (inner_step t (row_step i)) (w / 9) p.2;
       cols = eqb-true (inner_step t (col_step i)) (w / 3 % 3) p.3;
-      turns = same_told (eqb (turn i) 0) (eqb (steps w) 3) p.4;
+      turns = same_told (not (turn i)) (eqb (steps w) 3) p.4;
     }

@@ -167,6 +167,15 @@ unfolding room
 room_kind Up a b = refl
 room_kind Down a b = refl
 
+-- the test by the code's row and column, and their bound
+pub inner_is : (k : ℕ) (t : Kind) (a b : ℕ) → is_inner k (triangle_of t a b) ≡ (ltb 0 a && ltb 0 b && leb (a + b + 3) (2 ^ k))
+unfolding is_inner row col
+inner_is k Up a b = refl
+inner_is k Down a b = refl
+
+pub sides_small : (k : ℕ) (t : Kind) (a b : ℕ) → k ≤ max_level → span (triangle_of t a b) ≤ 2 ^ k → a + b ≤ 2 ^ max_level
+sides_small k t a b h l = omega (arith, span_is (triangle_of t a b), row_of t a b, col_of t a b, pow_mono {i = k} {j = max_level} h)
+
 pub record Inner (k : ℕ) (f : Triangle) : Type 0 where
   pub rows : 1 ≤ row f
   pub cols : 1 ≤ col f

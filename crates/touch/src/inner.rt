@@ -1,43 +1,45 @@
 // Cells away from their octant's edges: twelve ways lead to their touching cells, and the octant stays.
-ghost use Rattle.std.specs.Prelude.{◌≡◌, true, ℕ, ◌*◌, ◌/◌, ◌%◌, ◌^◌, ◌<◌, ◌≤◌, length, get_or};
-ghost use Rattle.cell.specs.Cell.{Occurs, place_of, max_level};
+ghost use Rattle.std.specs.Prelude.{◌≡◌, true, ℕ, ◌*◌, ◌/◌, ◌%◌, ◌^◌, ◌<◌, ◌≤◌, get_or};
+ghost use Rattle.cell.specs.Cell.{place_of};
 ghost use Rattle.touch.specs.inside.Inner.{is_inner, inner_way, inner_step, other, stepped, inner_cell};
 
-use cell::{CellNumber, Kind, NumberAnswer, Place};
+use cell::{CellNumber, Kind, Place, Site};
 
-// The steps of an up cell's ways, the first lowest: on the axis of the row and on that of the column two bits each, 1 for none; and a bit where the kind
-// changes. A down cell's steps are the opposite ones.
-const ROWS: u32 = 0x00a9_5400;
-
-const COLS: u32 = 0x0042_4294;
-
-const TURNS: u32 = 0x2ab;
+// The twelve ways of an up cell: its steps on the axis of the row and on that of the column, 1 for none, and whether the kind changes. A down cell's steps
+// are the opposite ones.
+const WAYS: [(u32, u32, bool); 12] = [
+    (0, 0, true),
+    (0, 1, true),
+    (0, 1, false),
+    (0, 2, true),
+    (0, 2, false),
+    (1, 0, true),
+    (1, 0, false),
+    (1, 1, true),
+    (1, 2, false),
+    (2, 0, true),
+    (2, 0, false),
+    (2, 1, false),
+];
 
 // Whether a cell lies away from its octant's edges.
-pub(crate) fn is_inner(level: u32, place: Place) -> bool
-    requires { (level ≤ max_level) × Occurs level (place_of place) }
-    ensures { result ≡ is_inner level (place_of place).1 }
+#[tactic(auto, using(crate::proofs::Twelve::inner_is, crate::proofs::Twelve::sides_small))]
+pub(crate) fn is_inner(site: Site) -> bool
+    ensures { result ≡ is_inner site.level.k (place_of site.place).1 }
 {
-    let row = place.row;
-    let col = place.col;
-    if row == 0 {
-        return false;
-    }
-    if col == 0 {
-        return false;
-    }
-    row + col + 3 <= 1 << level
+    let place = site.place;
+    0 < place.row && 0 < place.col && place.row + place.col + 3 <= 1 << site.level.k
 }
 
-// Step i of an up cell, or the opposite one of a down cell.
-fn step_at(kind: Kind, steps: u32, i: usize) -> u32
-    requires { (i < 12) × (steps / 2 ^ (2 * i) % 4 ≤ 2) }
-    ensures { (result ≡ inner_step kind (steps / 2 ^ (2 * i) % 4)) × (result ≤ 2) }
+// A step of an up cell, or the opposite one of a down cell.
+#[tactic(auto, unfolding(crate::specs::inside::Inner::inner_step))]
+fn step_of(kind: Kind, step: u32) -> u32
+    requires { step ≤ 2 }
+    ensures { (result ≡ inner_step kind step) × (result ≤ 2) }
 {
-    let s = (steps >> (2 * i)) % 4;
     match kind {
-        Kind::Up => s,
-        Kind::Down => 2 - s,
+        Kind::Up => step,
+        Kind::Down => 2 - step,
     }
 }
 
@@ -52,49 +54,39 @@ fn other_kind(kind: Kind) -> Kind
 }
 
 // The place of touching cell i of the twelve: the octant stays.
+#[tactic(auto, using(crate::proofs::Steps::steps_at), unfolding(crate::specs::inside::Inner::stepped))]
 fn place_at(place: Place, i: usize) -> Place
     requires { (i < 12) × (1 ≤ place.row) × (1 ≤ place.col) × (place.row < 2 ^ 31) × (place.col < 2 ^ 31) }
     ensures { place_of result ≡ (place.octant, stepped (inner_way place.kind i) place.kind place.row place.col) }
 {
-    let octant = place.octant;
-    let kind = place.kind;
-    let row = place.row + step_at(kind, ROWS, i) - 1;
-    let col = place.col + step_at(kind, COLS, i) - 1;
-    if (TURNS >> i) % 2 == 0 {
-        return Place {
-            octant,
-            kind,
-            row,
-            col,
-        };
-    }
+    let (row, col, turns) = WAYS[i];
     Place {
-        octant,
-        kind: other_kind(kind),
-        row,
-        col,
+        octant: place.octant,
+        kind: if turns {
+            other_kind(place.kind)
+        } else {
+            place.kind
+        },
+        row: place.row + step_of(place.kind, row) - 1,
+        col: place.col + step_of(place.kind, col) - 1,
     }
 }
 
 // Touching cell i of the twelve.
-fn cell_at(level: u32, place: Place, i: usize) -> CellNumber
-    requires { (level ≤ max_level) × Occurs level (place_of place) × (is_inner level (place_of place).1 ≡ true) × (i < 12) }
-    ensures { result ≡ inner_cell level place i }
+#[tactic(auto, using(crate::proofs::Twelve::room_to_step, crate::proofs::Twelve::found_along), unfolding(crate::specs::inside::Inner::inner_cell))]
+fn cell_at(site: Site, i: usize) -> CellNumber
+    requires { (is_inner site.level.k (place_of site.place).1 ≡ true) × (i < 12) }
+    ensures { result ≡ inner_cell site.level.k site.place i }
 {
-    match cell::number_of(level, place_at(place, i)) {
-        NumberAnswer::Number(n) => n,
-        NumberAnswer::Refused(_) => 0,
-    }
+    cell::number_of(site.level.k, place_at(site.place, i)).unwrap()
 }
 
-// Fills a slice with the twelve cells that touch a cell away from its octant's edges.
-pub(crate) fn fill(level: u32, place: Place, found: &mut [CellNumber])
-    requires { (level ≤ max_level) × Occurs level (place_of place) × (is_inner level (place_of place).1 ≡ true) × (length found.old ≡ 12) }
-    ensures { (i : ℕ) → i < 12 → get_or found.new i 0 ≡ inner_cell level place i }
+// Fills an array with the twelve cells that touch a cell away from its octant's edges.
+pub(crate) fn fill(site: Site, found: &mut [CellNumber; 12])
+    requires { is_inner site.level.k (place_of site.place).1 ≡ true }
+    ensures { (i : ℕ) → i < 12 → get_or found.new i 0 ≡ inner_cell site.level.k site.place i }
 {
-    let mut i = 0;
-    while i < 12 {
-        found[i] = cell_at(level, place, i);
-        i += 1;
+    for i in 0..12 {
+        found[i] = cell_at(site, i);
     }
 }

@@ -145,55 +145,47 @@ pub onto_more : (v u k b : ℕ) (a : Answer (ℕ × ℕ)) → onto v u k (more b
 onto_more v u k b (given (x, n)) = ap₂ (λ (y m : ℕ). given (y, m)) (omega (arith, mul-add u (b - 128) (128 * x), mul_assoc u 128 x)) (omega arith)
 onto_more v u k b (refused m) = refl
 
--- the groups from `at` to `next` are read, each with its high bit set
-pub record Reading (bs : List ℕ) (at v u next : ℕ) : Type 0 where
-  pub start : at ≤ next
-  pub few : next - at ≤ 5
-  pub units : u ≡ 128 ^ (next - at)
+-- the first k groups are read, each with its high bit set
+pub record Reading (bs : List ℕ) (v u k : ℕ) : Type 0 where
+  pub few : k ≤ 5
+  pub units : u ≡ 128 ^ k
   pub small : v < u
-  pub says : valued 5 (drop at bs) ≡ onto v u (next - at) (valued (5 - (next - at)) (drop next bs))
+  pub says : valued 5 bs ≡ onto v u k (valued (5 - k) (drop k bs))
 
-pub reading_none : (bs : List ℕ) (at : ℕ) → Reading bs at 0 1 at
-reading_none bs at =
-    let s : at - at ≡ 0 = omega arith in
-    record { start = omega arith; few = omega arith; units = rw s; small = omega arith; says = rw s (onto_none (valued 5 (drop at bs))) }
+pub reading_none : (bs : List ℕ) → Reading bs 0 1 0
+reading_none bs = record { few = omega arith; units = refl; small = omega arith; says = onto_none (valued 5 bs) }
 
 -- before the fifth, the units are at most 128^4
-pub reading_units : (bs : List ℕ) (at v u next : ℕ) → next - at < 5 → Reading bs at v u next → u ≤ 128 ^ 4
-reading_units bs at v u next h r = omega (arith, r.units, pow-le-pow_right {n = 128} (omega arith) {i = next - at} {j = 4} (omega arith))
+pub reading_units : (bs : List ℕ) (v u k : ℕ) → k < 5 → Reading bs v u k → u ≤ 128 ^ 4
+reading_units bs v u k h r = omega (arith, r.units, pow-le-pow_right {n = 128} (omega arith) {i = k} {j = 4} (omega arith))
 
-module _ (bs : List ℕ) (at v u next : ℕ) (h : next - at < 5) (r : Reading bs at v u next) where
-  one_less : 5 - (next - at) ≡ suc (4 - (next - at))
+module _ (bs : List ℕ) (v u k : ℕ) (h : k < 5) (r : Reading bs v u k) where
+  one_less : 5 - k ≡ suc (4 - k)
   one_less = omega arith
 
-  pub reading_more : next < length bs → 128 ≤ get_or bs next 0 → get_or bs next 0 < 256 →
-      Reading bs at (v + u * (get_or bs next 0 - 128)) (u * 128) (next + 1)
+  pub reading_more : k < length bs → 128 ≤ get_or bs k 0 → get_or bs k 0 < 256 →
+      Reading bs (v + u * (get_or bs k 0 - 128)) (u * 128) (k + 1)
   reading_more i l m =
-      let b = get_or bs next 0 in
-      let s : next + 1 - at ≡ next - at + 1 = omega (arith, r.start) in
-      let f : 5 - (next - at + 1) ≡ 4 - (next - at) = omega arith in
+      let b = get_or bs k 0 in
+      let f : 5 - (k + 1) ≡ 4 - k = omega arith in
       record {
-        start = omega (arith, r.start);
         few = omega arith;
-        units = rw (s, add-one (next - at), pow-suc) (ap (λ (x : ℕ). x * 128) r.units);
+        units = rw (add-one k, pow-suc) (ap (λ (x : ℕ). x * 128) r.units);
         small = omega (arith, r.small, mul-le-mul_left {m = b - 128} {n = 127} u (omega arith));
         says =
             r.says
-            ∙ rw (s, f, one_less, drop-cons bs next 0 i, valued_more (4 - (next - at)) b (drop (suc next) bs) l, add-one next)
-            (onto_more v u (next - at) b (valued (4 - (next - at)) (drop (suc next) bs)));
+            ∙ rw (f, one_less, drop-cons bs k 0 i, valued_more (4 - k) b (drop (suc k) bs) l, add-one k)
+            (rw (add-one k) at (onto_more v u k b (valued (4 - k) (drop (suc k) bs))));
       }
 
-  pub reading_last : next < length bs → get_or bs next 0 < 128 → given (v + u * get_or bs next 0, next + 1 - at) ≡ valued 5 (drop at bs)
+  pub reading_last : k < length bs → get_or bs k 0 < 128 → given (v + u * get_or bs k 0, k + 1) ≡ valued 5 bs
   reading_last i l =
-      let s : next + 1 - at ≡ next - at + 1 = omega (arith, r.start) in
-      sym (r.says ∙ rw (s, one_less, drop-cons bs next 0 i, valued_last (4 - (next - at)) (get_or bs next 0) (drop (suc next) bs) l))
+      sym (r.says ∙ rw (one_less, drop-cons bs k 0 i, valued_last (4 - k) (get_or bs k 0) (drop (suc k) bs) l))
 
-  pub reading_short : length bs ≤ next → refused 10 ≡ valued 5 (drop at bs)
+  pub reading_short : length bs ≤ k → refused 10 ≡ valued 5 bs
   unfolding valued
   reading_short i = sym (r.says ∙ rw (one_less, drop_of_length-le bs i))
 
-pub reading_long : (bs : List ℕ) (at v u next : ℕ) → 5 ≤ next - at → Reading bs at v u next → refused 11 ≡ valued 5 (drop at bs)
+pub reading_long : (bs : List ℕ) (v u : ℕ) → Reading bs v u 5 → refused 11 ≡ valued 5 bs
 unfolding valued
-reading_long bs at v u next h r =
-    let s : 5 - (next - at) ≡ 0 = omega arith in
-    sym (r.says ∙ rw s)
+reading_long bs v u r = sym r.says

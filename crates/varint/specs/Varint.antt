@@ -2,10 +2,6 @@
 -- is longer than it needs to be or than five bytes, and all numbers are below 2^32.
 use Rattle.std.specs.Prelude.{ℕ, zero, suc, ◌+◌, ◌-◌, ◌*◌, ◌/◌, ◌%◌, ◌^◌, ◌≤◌, ◌<◌, not, cond, ◌⊎◌, ◌≡◌, List, [], ◌∷◌, ◌++◌, leb, ltb, eqb, length, take, drop, get_or}
 use Rattle.refusal.specs.Answer.{Answer, given, refused, ◌when◌, in_order, lending}
-use Rattle.varint.specs.declared.ReadAnswer.{ReadAnswer}
-use Rattle.varint.specs.declared.ReadAnswer.TheVariants as read_answer
-use Rattle.varint.specs.declared.WriteAnswer.{WriteAnswer}
-use Rattle.varint.specs.declared.WriteAnswer.TheVariants as write-answer
 
 -- the bytes of n in at most f groups: low group first, 128 added where another follows
 unfoldable pub groups : ℕ → ℕ → List ℕ
@@ -74,12 +70,3 @@ abbrev pub write_call : ℕ → List ℕ → ℕ → Answer ℕ × List ℕ
 write_call n out at =
     let next = at + length (numeral n) in
     lending (in_order ((5 when ltb (length out) next) ∷ []) next) out (take at out ++ (numeral n ++ drop next out))
-
--- what the code's answers say
-abbrev pub said_read : ReadAnswer → Answer (ℕ × ℕ)
-said_read (read_answer.Number v next) = given (v, next)
-said_read (read_answer.Refused n) = refused n
-
-abbrev pub said_write : WriteAnswer → Answer ℕ
-said_write (write-answer.Next next) = given next
-said_write (write-answer.Refused n) = refused n

@@ -3,56 +3,33 @@
 
 ghost use Rattle.std.specs.Prelude.{◌≡◌, ◌+◌, ◌≤◌, length, drop};
 ghost use Rattle.std.proofs.lemmas.List.Edits.{sets};
-ghost use Rattle.varint.specs.Varint.{numeral, valued, read_call, write_call, said_read, said_write};
-ghost use Rattle.varint.specs.inside.Groups.{said_groups};
+ghost use Rattle.varint.specs.Varint.{numeral, valued, read_call, write_call};
+ghost use Rattle.refusal.specs.Refusal.{said};
+
+use refusal::Refusal;
 
 // The most bytes of a number.
 pub const MAX_BYTES: usize = 5;
 
-#[derive(Drop)]
-pub enum ReadAnswer {
-    // The number, and the place after it.
-    Number(u32, usize),
-    Refused(u8),
-}
-
-#[derive(Drop)]
-pub enum WriteAnswer {
-    // The place after the number.
-    Next(usize),
-    Refused(u8),
-}
-
-#[derive(Drop)]
-enum GroupsAnswer {
-    // The number, and how many bytes it has.
-    Number(u64, usize),
-    Refused(u8),
-}
-
-// What the groups from a place on say, in whatever form.
-fn read_groups(bytes: &[u8], at: usize) -> GroupsAnswer
-    ensures { said_groups result ≡ valued 5 (drop at bytes.now) }
+// What the groups from a place on say, in whatever form: the number, and how many bytes it has.
+fn read_groups(bytes: &[u8], at: usize) -> Result<(u64, usize), Refusal>
+    ensures { said result ≡ valued 5 (drop at bytes.now) }
 {
+    let bytes = bytes.get(at..).ok_or(Refusal::Short)?;
     let mut value: u64 = 0;
     let mut unit: u64 = 1;
-    let mut next = at;
-    while next - at < MAX_BYTES {
-        if bytes.len() <= next {
-            return GroupsAnswer::Refused(refusal::SHORT);
-        }
-        let byte = bytes[next] as u64;
-        next += 1;
+    for before in 0..MAX_BYTES {
+        let byte = u64::from(*bytes.get(before).ok_or(Refusal::Short)?);
         if byte < 128 {
-            return GroupsAnswer::Number(value + unit * byte, next - at);
+            return Ok((value + unit * byte, before + 1));
         }
         value += unit * (byte - 128);
         unit *= 128;
     }
-    GroupsAnswer::Refused(refusal::FORM)
+    Err(Refusal::Form)
 }
 
-// How many bytes a number has in its shortest form.
+// How many bytes a number has in its shortest form. The loop ends by what is left of the number: no range and no slice has that many items beforehand.
 pub fn number_length(n: u32) -> usize
     ensures { result ≡ length (numeral n) }
 {
@@ -65,27 +42,19 @@ pub fn number_length(n: u32) -> usize
     count
 }
 
-// Reads the number that begins at a place.
-pub fn read_number(bytes: &[u8], at: usize) -> ReadAnswer
-    ensures { said_read result ≡ read_call bytes.now at }
+// Reads the number that begins at a place: the number, and the place after it.
+pub fn read_number(bytes: &[u8], at: usize) -> Result<(u32, usize), Refusal>
+    ensures { said result ≡ read_call bytes.now at }
 {
-    match read_groups(bytes, at) {
-        GroupsAnswer::Refused(n) => ReadAnswer::Refused(n),
-        GroupsAnswer::Number(value, count) => {
-            if 0xffff_ffff < value {
-                return ReadAnswer::Refused(refusal::FORM);
-            }
-            let number = value as u32;
-            if number_length(number) != count {
-                return ReadAnswer::Refused(refusal::FORM);
-            }
-            let next = at + count;
-            ReadAnswer::Number(number, next)
-        }
+    let (value, count) = read_groups(bytes, at)?;
+    let number = u32::try_from(value).map_err(|_| Refusal::Form)?;
+    if number_length(number) != count {
+        return Err(Refusal::Form);
     }
+    Ok((number, at + count))
 }
 
-// Puts the groups of a number into a slice that has room for them.
+// Puts the groups of a number into a slice that has room for them. The loop ends as that of `number_length` does.
 fn write_groups(n: u32, out: &mut [u8], at: usize)
     requires { at + length (numeral n) ≤ length out.old }
     ensures { out.new ≡ sets out.old at (numeral n) }
@@ -100,18 +69,14 @@ fn write_groups(n: u32, out: &mut [u8], at: usize)
     out[place] = rest as u8;
 }
 
-// Writes a number from a place on. Where it does not fit nothing is written.
-pub fn write_number(n: u32, out: &mut [u8], at: usize) -> WriteAnswer
-    ensures { (said_write result, out.new) ≡ write_call n out.old at }
+// Writes a number from a place on, and answers the place after it. Where it does not fit nothing is written.
+pub fn write_number(n: u32, out: &mut [u8], at: usize) -> Result<usize, Refusal>
+    ensures { (said result, out.new) ≡ write_call n out.old at }
 {
     let count = number_length(n);
-    if out.len() < at {
-        return WriteAnswer::Refused(refusal::LENGTH);
+    if out.len().saturating_sub(at) < count {
+        return Err(Refusal::Length);
     }
-    if out.len() - at < count {
-        return WriteAnswer::Refused(refusal::LENGTH);
-    }
-    let next = at + count;
     write_groups(n, out, at);
-    WriteAnswer::Next(next)
+    Ok(at + count)
 }

@@ -1,104 +1,83 @@
 // Cells, positions and centres.
-use crate::out::Answer;
-use crate::words::WORDS;
-use crate::{lists, out, steps};
-use cell::{Kind, NumberAnswer, Place, PlaceAnswer};
-use centre::CentreAnswer;
-use position::{CellAnswer, Latitude, Longitude};
+use crate::answer::Answer;
+use crate::args::Args;
+use crate::fault::Fault;
+use crate::words::Word;
+use cell::{Kind, Place};
+use position::{Latitude, Longitude};
 
-// As in octant 0 down(3,9).
-pub fn place(level: u32, cell: u32) -> Answer {
-    match cell::place_of(level, cell) {
-        PlaceAnswer::At(place) => {
-            let kind = place.kind;
-            match kind {
-                Kind::Up => Answer(out::UP, place.octant, place.row, place.col),
-                Kind::Down => Answer(out::DOWN, place.octant, place.row, place.col),
-            }
-        }
-        PlaceAnswer::Refused(n) => Answer(out::REFUSED, n as u32, 0, 0),
-    }
+// A level and a cell, which are all the words.
+fn place_of(args: &mut Args<'_>) -> Result<Place, Fault> {
+    let level = args.number()?;
+    let cell = args.number()?;
+    args.end()?;
+    Ok(cell::place_of(level, cell)?)
 }
 
-// Source 003's coordinates of a cell's centroid. In its units Y is 3a + s and X is a third of 2(3b + s) + Y, with s = 1 for up and 2 for down. Up to
-// level 14 rows and columns are below 2^14.
-pub fn centroid(level: u32, cell: u32) -> Answer {
-    let place = place(level, cell);
-    if place.0 == out::REFUSED {
-        return place;
-    }
-    let s = (place.0 / 4 % 2 + 1) as u32;
-    let y = 3 * (place.2 % 0x4000) + s;
-    let x = (2 * (3 * (place.3 % 0x4000) + s) + y) / 3;
-    Answer(out::CENTROID, x, y, 0)
+pub fn place(args: &mut Args<'_>) -> Result<Answer, Fault> {
+    Ok(Answer::Place(place_of(args)?))
 }
 
-// The words up and down have the values 0 and 1.
-pub fn number(level: u32, octant: u32, kind: u32, row: u32, col: u32) -> Answer {
-    let kind = if kind == 0 { Kind::Up } else { Kind::Down };
-    let place = Place {
-        octant,
-        kind,
-        row,
-        col,
+// In the units of source 003, Y is 3a + s and X is a third of 2(3b + s) + Y, with s = 1 for up and 2 for down.
+pub fn centroid(args: &mut Args<'_>) -> Result<Answer, Fault> {
+    let place = place_of(args)?;
+    let s = match place.kind {
+        Kind::Up => 1,
+        Kind::Down => 2,
     };
-    match cell::number_of(level, place) {
-        NumberAnswer::Number(cell) => Answer(out::CELL, cell, 0, 0),
-        NumberAnswer::Refused(n) => Answer(out::REFUSED, n as u32, 0, 0),
-    }
+    let y = 3 * u64::from(place.row) + s;
+    let x = (2 * (3 * u64::from(place.col) + s) + y) / 3;
+    Ok(Answer::Centroid { x, y })
 }
 
-pub fn centre(level: u32, cell: u32) -> Answer {
-    match centre::centre_of(level, cell) {
-        CentreAnswer::At(latitude, longitude) => Answer(
-            out::CENTRE,
-            out::with_sign(latitude.0),
-            out::with_sign(longitude.0),
-            0,
-        ),
-        CentreAnswer::Refused(n) => Answer(out::REFUSED, n as u32, 0, 0),
-    }
+pub fn number(args: &mut Args<'_>) -> Result<Answer, Fault> {
+    let level = args.number()?;
+    let place = Place {
+        octant: args.number()?,
+        kind: args.one(Word::kind)?,
+        row: args.number()?,
+        col: args.number()?,
+    };
+    args.end()?;
+    Ok(Answer::Cell(args.name(cell::number_of(level, place)?)))
 }
 
-// How a cell stands to a list: in it, or touching one of its cells, or apart from all.
-fn relation(level: u32, cell: u32, list: &[u32]) -> usize {
-    let mut form = out::APART;
-    for i in 0..list.len() {
-        if list[i] == cell {
-            return out::IN;
-        }
-        if steps::touch(level, list[i], cell).0 == out::TOUCH {
-            form = out::TOUCHES;
-        }
-    }
-    form
+pub fn centre(args: &mut Args<'_>) -> Result<Answer, Fault> {
+    let level = args.number()?;
+    let cell = args.number()?;
+    args.end()?;
+    let (latitude, longitude) = centre::centre_of(level, cell)?;
+    Ok(Answer::Centre(latitude, longitude))
 }
 
-// A number by its value.
-fn signed(value: u32) -> i32 {
-    if value < out::BELOW {
-        return value as i32;
-    }
-    0 - ((value - out::BELOW) % 0x7fff_ffff + 1) as i32
+fn position(args: &mut Args<'_>) -> Result<(Latitude, Longitude), Fault> {
+    let latitude = args.one(Word::signed)?;
+    let longitude = args.one(Word::signed)?;
+    Ok((Latitude(latitude), Longitude(longitude)))
 }
 
-// The cell at a position, alone or against a list of cells.
-pub fn cell(alone: bool, count: usize, values: &[u32; WORDS]) -> Answer {
-    let level = values[0];
-    let latitude = Latitude(signed(values[1]));
-    let longitude = Longitude(signed(values[2]));
-    match position::cell_at(level, latitude, longitude) {
-        CellAnswer::Number(cell) => {
-            if alone {
-                return Answer(out::CELL, cell, 0, 0);
-            }
-            Answer(
-                relation(level, cell, lists::cells_in(values, 3, count)),
-                0,
-                0,
-                0,
-            )
-        }
-        CellAnswer::Refused(n) => Answer(out::REFUSED, n as u32, 0, 0),
+pub fn cell(args: &mut Args<'_>) -> Result<Answer, Fault> {
+    let level = args.number()?;
+    let (latitude, longitude) = position(args)?;
+    args.end()?;
+    Ok(Answer::Cell(args.name(position::cell_at(level, latitude, longitude)?)))
+}
+
+// How the cell at a position stands to a list of cells: in it, or touching one of them, or apart from all.
+pub fn near(args: &mut Args<'_>) -> Result<Answer, Fault> {
+    let level = args.number()?;
+    let (latitude, longitude) = position(args)?;
+    let list = args.list(Word::number)?;
+    args.done()?;
+    let cell = position::cell_at(level, latitude, longitude)?;
+    if list.contains(&cell) {
+        return Ok(Answer::In);
     }
+    if list
+        .iter()
+        .any(|one| corner::cells_touch(level, *one, cell) == Ok(true))
+    {
+        return Ok(Answer::Touches);
+    }
+    Ok(Answer::Apart)
 }

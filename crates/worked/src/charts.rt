@@ -1,69 +1,66 @@
 // Readings and days of charts.
-use crate::out::{Answer, LENGTH};
-use crate::words::WORDS;
-use crate::{lists, masks, out, temperature};
-use chart::ReadingAnswer;
-use day::DayAnswer;
-
-fn of_reading(answer: ReadingAnswer) -> Answer {
-    match answer {
-        ReadingAnswer::Fresh(t) => Answer(out::FRESH, temperature::bits_of(t), 0, 0),
-        ReadingAnswer::Carried(t, days) => {
-            Answer(out::CARRIED, temperature::bits_of(t), days as u32, 0)
-        }
-        ReadingAnswer::Gap => Answer(out::GAP, 0, 0, 0),
-        ReadingAnswer::Refused(n) => Answer(out::REFUSED, n as u32, 0, 0),
-    }
-}
+use crate::answer::Answer;
+use crate::args::Args;
+use crate::fault::Fault;
+use crate::temperature::Temperature;
+use crate::words::Word;
+use crate::{bits, masks};
+use std::fmt::Write;
 
 // The reading of a cell, with the two lists of its chart.
-pub fn reading(kinds: &[u8; WORDS], values: &[u32; WORDS]) -> Answer {
-    let mut ages = [0u8; WORDS];
-    let mut reals = [0.0f32; WORDS];
-    lists::convert(values, &mut ages, &mut reals);
-    let first = lists::part_at(kinds, 2);
-    let second = lists::part_at(kinds, first.next);
-    let temperatures = lists::reals_in(&mut reals, first.from, first.to);
-    let days = lists::bytes_in(&mut ages, second.from, second.to);
-    of_reading(chart::reading_of(values[0], temperatures, days, values[1]))
+pub fn reading(args: &mut Args<'_>) -> Result<Answer, Fault> {
+    let level = args.number()?;
+    let cell = args.number()?;
+    let temperatures = args.list(Word::temperature)?;
+    let ages = args.list(Word::byte)?;
+    args.done()?;
+    Ok(Answer::Reading(chart::reading_of(level, &temperatures, &ages, cell)?))
 }
 
-// A day, and what it leaves of the two slices of the chart.
-fn put_day(out: &mut [u8; LENGTH], answer: DayAnswer, temperatures: &[f32], ages: &[u8]) -> usize {
-    let summed = match answer {
-        DayAnswer::Summed(summary) => Answer(
-            out::SUMMARY,
-            summary.count,
-            temperature::bits_of(summary.coldest),
-            temperature::bits_of(summary.warmest),
-        ),
-        DayAnswer::Refused(n) => Answer(out::REFUSED, n as u32, 0, 0),
-    };
-    let at = out::form(out, 0, out::BY_NUMBER, summed);
-    let first = out::text(out, at, b" /");
-    let next = out::temperatures(out, first, temperatures);
-    let second = out::text(out, next, b" /");
-    out::numbers(out, second, ages)
-}
-
-// The four lists of a day: new temperatures, clouded cells, old temperatures and ages.
-pub fn day(out: &mut [u8; LENGTH], kinds: &[u8; WORDS], values: &[u32; WORDS]) -> usize {
-    let mut ages = [0u8; WORDS];
-    let mut new = [0.0f32; WORDS];
-    lists::convert(values, &mut ages, &mut new);
-    let mut old = new;
-    let mut all = [0u8; masks::BYTES];
-    let first = lists::part_at(kinds, 2);
-    let second = lists::part_at(kinds, first.next);
-    let third = lists::part_at(kinds, second.next);
-    let fourth = lists::part_at(kinds, third.next);
-    let clouds = masks::marked(&mut all, values[0], second, values);
-    if clouds.len() == 0 {
-        return 0;
+// A day, and what it leaves of the two lists of the chart. The four lists of a day: new temperatures, clouded cells, old temperatures and ages.
+pub fn day(args: &mut Args<'_>, out: &mut String) -> Result<(), Fault> {
+    let level = args.number()?;
+    let limit = args.number()?;
+    let fresh = args.list(Word::temperature)?;
+    let is_full = args.is_over();
+    let clouds = masks::marked(args.alloc, level, args.words())?;
+    let has_one_list = args.is_over();
+    let mut temperatures = args.list(Word::temperature)?;
+    let mut ages = args.list(Word::byte)?;
+    args.done()?;
+    match day::day(level, limit, &fresh, &clouds, &mut temperatures, &mut ages) {
+        Ok(summary) => {
+            let coldest = Temperature(summary.coldest);
+            let warmest = Temperature(summary.warmest);
+            write!(
+                out,
+                "fresh {} coldest {coldest} warmest {warmest}",
+                summary.count
+            )?;
+        }
+        Err(refusal) => write!(out, "refused {}", refusal.number())?,
     }
-    let fresh = lists::reals_in(&mut new, first.from, first.to);
-    let left = lists::reals_in(&mut old, third.from, third.to);
-    let days = lists::bytes_in(&mut ages, fourth.from, fourth.to);
-    let answer = day::day(values[0], values[1], fresh, clouds, left, days);
-    put_day(out, answer, left, days)
+    // Where only the first list is there, the day is refused, and the words in front of it stand for the ages, or for the temperatures in a case that has
+    // room for no further word.
+    let front = if has_one_list { args.front() } else { &[] };
+    out.push_str(" /")?;
+    if is_full {
+        for word in front {
+            out.push(' ')?;
+            bits::write(word.bits(), out)?;
+        }
+    }
+    for temperature in temperatures {
+        write!(out, " {}", Temperature(temperature))?;
+    }
+    out.push_str(" /")?;
+    if !is_full {
+        for word in front {
+            write!(out, " {}", word.bits() % 256)?;
+        }
+    }
+    for age in ages {
+        write!(out, " {age}")?;
+    }
+    Ok(())
 }

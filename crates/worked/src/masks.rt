@@ -1,168 +1,144 @@
 // Masks, given by their marked cells.
-use crate::lists::Part;
-use crate::out::{Answer, LENGTH};
-use crate::words::WORDS;
-use crate::{lists, out};
-use mask::{CountAnswer, WithinAnswer};
-use refusal::Outcome;
+use crate::answer::Answer;
+use crate::args::Args;
+use crate::fault::Fault;
+use crate::words::Word;
+use std::alloc::Global;
+use std::fmt::Write;
 
 // The bytes of a mask of level 8, and one more.
-pub const BYTES: usize = 65537;
+const BYTES: usize = 65537;
 
-// The bytes of a mask of a level; one where no mask has that level. One more where the word long stood there.
-fn size_of(level: u32, long: bool) -> usize {
-    let size = if mask::MAX_MASK_LEVEL < level {
-        1
-    } else {
+// The bytes of a mask of a level; one where no mask has that level.
+fn size_of(level: u32) -> usize {
+    if level <= mask::MAX_MASK_LEVEL {
         1 << (2 * level)
+    } else {
+        1
+    }
+}
+
+// A mask of a level with the cells of a list marked, and a byte longer where the word long stands at the list's end. The mask has to have all the cells.
+pub fn marked(alloc: Global, level: u32, words: &[Word]) -> Result<Vec<u8>, Fault> {
+    let mut mask = vec![in alloc; 0; size_of(level)]?;
+    let cells = match words {
+        [cells @ .., Word::Long] => {
+            mask.push(0)?;
+            cells
+        }
+        cells => cells,
     };
-    if long { size % 0x2_0000 + 1 } else { size }
-}
-
-// The byte of a mask that has a cell's bit.
-fn byte_of(cell: u32) -> usize {
-    (cell / 8) as usize
-}
-
-// Marks cells, and answers whether the mask has them all.
-fn mark_all(cells: &[u32], mask: &mut [u8]) -> bool {
-    for i in 0..cells.len() {
-        let cell = cells[i];
-        if mask.len() <= byte_of(cell) {
-            return false;
+    for word in cells {
+        let cell = word.number().ok_or(Fault::Unreadable)?;
+        if mask.len() <= (cell / 8) as usize {
+            return Err(Fault::Unreadable);
         }
-        bitset::mark(mask, cell);
+        bitset::mark(&mut mask, cell);
     }
-    true
+    Ok(mask)
 }
 
-// The front of a slice as a mask of a level, with the cells of a list marked; empty where it lacks one of them.
-pub fn marked<'a>(
-    all: &'a mut [u8],
-    level: u32,
-    part: Part,
-    values: &[u32; WORDS],
-) -> &'a mut [u8] {
-    let mask = lists::front(all, size_of(level, part.long));
-    if mark_all(lists::cells_in(values, part.from, part.to), mask) {
-        return mask;
-    }
-    &mut mask[0..0]
+fn next_mask(args: &mut Args<'_>, level: u32) -> Result<Vec<u8>, Fault> {
+    marked(args.alloc, level, args.words())
 }
 
-// Puts the marked cells of a mask, which has at most 65,537 bytes, into a slice, or none.
-fn put_mask(out: &mut [u8; LENGTH], style: u32, mask: &[u8]) -> usize {
-    let cells = (mask.len() % 0x2_0000) as u32 * 8;
-    let mut at = 0;
-    for cell in 0..cells {
+fn empty(args: &Args<'_>, level: u32) -> Result<Vec<u8>, Fault> {
+    Ok(vec![in args.alloc; 0; size_of(level)]?)
+}
+
+// The marked cells, or none.
+fn write_cells(args: &Args<'_>, level: u32, mask: &[u8], out: &mut String) -> Result<(), Fault> {
+    for cell in 0..8 << (2 * level.min(mask::MAX_MASK_LEVEL)) {
         if bitset::is_marked(mask, cell) {
-            at = out::item(out, at, style, b'&', cell);
+            write!(out, " {}", args.name(cell))?;
         }
     }
-    if at == 0 {
-        return out::text(out, 0, b"none");
+    if out.is_empty() {
+        out.push_str("none")?;
     }
-    at
-}
-
-// The answer of a call that makes a mask, or of one that says yes.
-fn made(outcome: Outcome, form: usize) -> Answer {
-    match outcome {
-        Outcome::Done => Answer(form, 0, 0, 0),
-        Outcome::Refused(n) => Answer(out::REFUSED, n as u32, 0, 0),
-    }
+    Ok(())
 }
 
 // Whether so many bytes are a mask of a level.
-pub fn mask(level: u32, bytes: u32) -> Answer {
-    let all = [0u8; BYTES];
-    let size = bytes as usize;
+pub fn mask(args: &mut Args<'_>) -> Result<Answer, Fault> {
+    let level = args.number()?;
+    let size = args.number()? as usize;
+    args.end()?;
     if BYTES < size {
-        return Answer(out::NONE, 0, 0, 0);
+        return Err(Fault::Unreadable);
     }
-    made(mask::is_mask(level, &all[0..size]), out::YES)
+    let mask = vec![in args.alloc; 0; size]?;
+    mask::is_mask(level, &mask)?;
+    Ok(Answer::Yes)
 }
 
-fn counted(level: u32, mask: &[u8]) -> Answer {
-    match mask::count(level, mask) {
-        CountAnswer::Count(cells) => Answer(out::NUMBER, cells, 0, 0),
-        CountAnswer::Refused(n) => Answer(out::REFUSED, n as u32, 0, 0),
-    }
+pub fn count(args: &mut Args<'_>) -> Result<Answer, Fault> {
+    let level = args.number()?;
+    let mask = next_mask(args, level)?;
+    args.done()?;
+    Ok(Answer::Number(mask::count(level, &mask)?))
 }
 
-fn within(level: u32, one: &[u8], other: &[u8]) -> Answer {
-    match mask::within(level, one, other) {
-        WithinAnswer::Within => Answer(out::YES, 0, 0, 0),
-        WithinAnswer::Lacks(cell) => Answer(out::LACKS, cell, 0, 0),
-        WithinAnswer::Refused(n) => Answer(out::REFUSED, n as u32, 0, 0),
-    }
+pub fn within(args: &mut Args<'_>) -> Result<Answer, Fault> {
+    let level = args.number()?;
+    let one = next_mask(args, level)?;
+    let other = next_mask(args, level)?;
+    args.done()?;
+    Ok(match mask::within(level, &one, &other)? {
+        None => Answer::Yes,
+        Some(cell) => Answer::Lacks(args.name(cell)),
+    })
 }
 
-// Makes a call that makes a mask. The second mask serves growing and shrinking as the one for work.
-fn make(
-    call: usize,
-    level: u32,
-    number: u32,
-    one: &[u8],
-    other: &mut [u8],
-    to: &mut [u8],
-) -> Outcome {
-    match call {
-        17 => mask::join(level, one, other, to),
-        19 => grow::grow(level, number, one, to, other),
-        20 => grow::shrink(level, number, one, to, other),
-        _ => fill::fill(level, one, number, to),
-    }
+pub fn join(args: &mut Args<'_>, out: &mut String) -> Result<(), Fault> {
+    let level = args.number()?;
+    let one = next_mask(args, level)?;
+    let other = next_mask(args, level)?;
+    args.done()?;
+    let mut both = empty(args, level)?;
+    mask::join(level, &one, &other, &mut both)?;
+    write_cells(args, level, &both, out)
 }
 
-// A call on its masks. The answer is as it is, or the cells of the mask that was made, or how many they are.
-fn run_on(
-    out: &mut [u8; LENGTH],
-    call: usize,
-    style: u32,
-    level: u32,
-    number: u32,
-    one: &[u8],
-    other: &mut [u8],
-    mask: &mut [u8],
-) -> usize {
-    if call == 16 {
-        return out::form(out, 0, style, counted(level, one));
-    }
-    if call == 18 {
-        return out::form(out, 0, style, within(level, one, other));
-    }
-    let answer = made(make(call, level, number, one, other, mask), out::CELLS);
-    if answer.0 == out::REFUSED {
-        return out::form(out, 0, style, answer);
-    }
-    if call == 22 {
-        return out::form(out, 0, style, counted(level, mask));
-    }
-    put_mask(out, style, mask)
+pub fn grow(args: &mut Args<'_>, out: &mut String) -> Result<(), Fault> {
+    let level = args.number()?;
+    let rings = args.number()?;
+    let mask = next_mask(args, level)?;
+    args.done()?;
+    let mut grown = empty(args, level)?;
+    let mut work = empty(args, level)?;
+    grow::grow(level, rings, &mask, &mut grown, &mut work)?;
+    write_cells(args, level, &grown, out)
 }
 
-// A call on one mask or two; of one, the second is empty.
-pub fn run(
-    out: &mut [u8; LENGTH],
-    call: usize,
-    style: u32,
-    kinds: &[u8; WORDS],
-    values: &[u32; WORDS],
-) -> usize {
-    let mut all = [0u8; BYTES];
-    let mut others = [0u8; BYTES];
-    let mut to = [0u8; BYTES];
-    let first = lists::part_at(kinds, call / 19 + 1);
-    let second = lists::part_at(kinds, first.next);
-    let one = marked(&mut all, values[0], first, values);
-    let other = marked(&mut others, values[0], second, values);
-    if one.len() == 0 {
-        return 0;
-    }
-    if other.len() == 0 {
-        return 0;
-    }
-    let mask = lists::front(&mut to, size_of(values[0], false));
-    run_on(out, call, style, values[0], values[1], one, other, mask)
+pub fn shrink(args: &mut Args<'_>, out: &mut String) -> Result<(), Fault> {
+    let level = args.number()?;
+    let rings = args.number()?;
+    let mask = next_mask(args, level)?;
+    args.done()?;
+    let mut shrunk = empty(args, level)?;
+    let mut work = empty(args, level)?;
+    grow::shrink(level, rings, &mask, &mut shrunk, &mut work)?;
+    write_cells(args, level, &shrunk, out)
+}
+
+// A level, and the cells that a border leaves on the side away from a cell.
+fn filling(args: &mut Args<'_>) -> Result<(u32, Vec<u8>), Fault> {
+    let level = args.number()?;
+    let outside = args.number()?;
+    let border = next_mask(args, level)?;
+    args.done()?;
+    let mut region = empty(args, level)?;
+    fill::fill(level, &border, outside, &mut region)?;
+    Ok((level, region))
+}
+
+pub fn fill(args: &mut Args<'_>, out: &mut String) -> Result<(), Fault> {
+    let (level, region) = filling(args)?;
+    write_cells(args, level, &region, out)
+}
+
+pub fn filled(args: &mut Args<'_>) -> Result<Answer, Fault> {
+    let (level, region) = filling(args)?;
+    Ok(Answer::Number(mask::count(level, &region)?))
 }

@@ -1,71 +1,82 @@
 // Steps, codes, and touching cells.
-use crate::out::{Answer, LENGTH};
-use crate::{lists, out};
-use corner::TouchAnswer;
-use step::{CodeAnswer, StepAnswer};
-use touch::ListAnswer;
+use crate::answer::Answer;
+use crate::args::Args;
+use crate::fault::Fault;
+use crate::words::Word;
+use std::fmt::Write;
 
-pub fn step(level: u32, cell: u32, code: u32) -> Answer {
-    match step::step_along(level, cell, (code % 256) as u8) {
-        StepAnswer::To(next) => Answer(out::CELL, next, 0, 0),
-        StepAnswer::Refused(n) => Answer(out::REFUSED, n as u32, 0, 0),
-    }
+pub fn step(args: &mut Args<'_>) -> Result<Answer, Fault> {
+    let level = args.number()?;
+    let cell = args.number()?;
+    let code = args.one(Word::code)?;
+    args.end()?;
+    Ok(Answer::Cell(args.name(step::step_along(level, cell, code)?)))
 }
 
 // The code between two cells.
-pub fn code(level: u32, from: u32, to: u32) -> Answer {
-    match step::code_between(level, from, to) {
-        CodeAnswer::Along(code) => Answer(out::CODE, code as u32, 0, 0),
-        CodeAnswer::Refused(n) => Answer(out::REFUSED, n as u32, 0, 0),
-    }
+pub fn code(args: &mut Args<'_>) -> Result<Answer, Fault> {
+    let level = args.number()?;
+    let from = args.number()?;
+    let to = args.number()?;
+    args.end()?;
+    Ok(Answer::Code(step::code_between(level, from, to)?))
 }
 
 // The codes from each cell of a list to the next.
-pub fn codes(out: &mut [u8; LENGTH], level: u32, list: &[u32]) -> usize {
-    let mut at = 0;
-    for i in 1..list.len() {
-        let next = out::text(out, at, b" ");
-        at = out::form(out, next, out::BY_NUMBER, code(level, list[i - 1], list[i]));
+pub fn codes(args: &mut Args<'_>, out: &mut String) -> Result<(), Fault> {
+    let level = args.number()?;
+    let mut from = args.number()?;
+    let list = args.list(Word::number)?;
+    args.done()?;
+    for to in list {
+        match step::code_between(level, from, to) {
+            Ok(code) => write!(out, " {}", Answer::Code(code))?,
+            Err(refusal) => write!(out, " refused {}", refusal.number())?,
+        }
+        from = to;
     }
-    at
+    Ok(())
 }
 
 // The cells that steps lead to, one after the other, to the first that is refused.
-pub fn path(out: &mut [u8; LENGTH], style: u32, level: u32, start: u32, list: &[u32]) -> usize {
-    let mut at = 0;
-    let mut cell = start;
-    for i in 0..list.len() {
-        let next = out::text(out, at, b" ");
-        let answer = step(level, cell, list[i]);
-        at = out::form(out, next, style, answer);
-        if answer.0 != out::CELL {
-            return at;
-        }
-        cell = answer.1;
+pub fn path(args: &mut Args<'_>, out: &mut String) -> Result<(), Fault> {
+    let level = args.number()?;
+    let mut cell = args.number()?;
+    let list = args.list(Word::code)?;
+    args.done()?;
+    for code in list {
+        out.push(' ')?;
+        cell = step::step_along(level, cell, code)?;
+        write!(out, "{}", args.name(cell))?;
     }
-    at
+    Ok(())
 }
 
-pub fn touch(level: u32, one: u32, other: u32) -> Answer {
-    match corner::cells_touch(level, one, other) {
-        TouchAnswer::Touch => Answer(out::TOUCH, 0, 0, 0),
-        TouchAnswer::NotTouching => Answer(out::APART, 0, 0, 0),
-        TouchAnswer::Refused(n) => Answer(out::REFUSED, n as u32, 0, 0),
+pub fn touch(args: &mut Args<'_>) -> Result<Answer, Fault> {
+    let level = args.number()?;
+    let one = args.number()?;
+    let other = args.number()?;
+    args.end()?;
+    if corner::cells_touch(level, one, other)? {
+        Ok(Answer::Touch)
+    } else {
+        Ok(Answer::Apart)
     }
 }
 
-// The cells that touch a cell, found in a slice of a given length up to 16.
-pub fn touching(out: &mut [u8; LENGTH], style: u32, level: u32, cell: u32, room: u32) -> usize {
+// The cells that touch a cell, found in a slice of a given length up to 16, or else 12.
+pub fn touching(args: &mut Args<'_>, out: &mut String) -> Result<(), Fault> {
+    let level = args.number()?;
+    let cell = args.number()?;
+    let room = if args.at_bar() { 12 } else { args.number()? };
+    args.end()?;
     let mut list = [0u32; 16];
-    let size = room as usize;
-    if 16 < size {
-        return 0;
+    let Some(part) = list.get_mut(..room as usize) else {
+        return Err(Fault::Unreadable);
+    };
+    let count = touch::touching_cells(level, cell, part)?;
+    for cell in part.iter().take(count as usize) {
+        write!(out, " {}", args.name(*cell))?;
     }
-    let part = &mut list[0..size];
-    match touch::touching_cells(level, cell, part) {
-        ListAnswer::Count(count) => {
-            out::cells(out, 0, style, lists::cells_in(part, 0, count as usize))
-        }
-        ListAnswer::Refused(n) => { out::form(out, 0, style, Answer(out::REFUSED, n as u32, 0, 0)) }
-    }
+    Ok(())
 }

@@ -1,158 +1,182 @@
-// The words of a case, read into two lists: their kinds and their values.
-use crate::out::LENGTH;
-use crate::shapes::ROW;
-use crate::{out, scan, shapes, temperature};
+// The words of a case.
+use crate::{bits, temperature};
+use cell::Kind;
+use std::alloc::{AllocError, Global};
 
-// How many words a case may have.
+// How many words a case may have, with its end.
 pub const WORDS: usize = 4200;
 
-// How many words have names.
-const NAMES: usize = 16;
-
-// Their names and kinds, and in the second table their values.
-const NAMED: [u8; 320] = *b"t       !           \
-    l       !           \
-    r       !           \
-    e       !           \
-    w       !           \
-    T       !           \
-    E       !           \
-    W       !           \
-    up      k           \
-    down    k           \
-    long    l           \
-    /       |           \
-    list    L           \
-    inf     #           \
-    -inf    #           \
-    nan     #           ";
-
-const VALUES: [u32; NAMES] = [
-    0,
-    1,
-    2,
-    3,
-    4,
-    5,
-    6,
-    7,
-    0,
-    1,
-    0,
-    0,
-    0,
-    0x7f80_0000,
-    0xff80_0000,
-    0x7fc0_0000,
-];
-
-// A word: its kind and its value. The kinds: % a number, $ one below zero, & the cell of an address, ! the letter of a code, # a temperature, by its
-// bits, k up (0) or down (1), l the word long, | a bar or the end of the case, L the word list, and ? what is none of these.
 #[derive(Clone, Copy)]
-pub struct Word(pub u8, pub u32);
+pub enum Word {
+    Number(u32),
+    // Below zero.
+    Negative(i32),
+    // The cell of an address.
+    Cell(u32),
+    Code(u8),
+    Temperature(f32),
+    Kind(Kind),
+    Long,
+    // A bar, or the end of the case.
+    Bar,
+    List,
+    // Past the end: 0 in a list that is not there.
+    Blank,
+    Unknown,
+}
 
-// The value of the digits in a text; what is below them, as a point or a sign, is passed over.
-pub fn digits_of(text: &[u8]) -> u64 {
-    let mut n: u64 = 0;
-    for i in 0..text.len() {
-        let character = text[i];
-        if b'0' <= character {
-            n = n % 0x100_0000_0000 * 10 + (character % 16) as u64;
+impl Word {
+    // A word is a name, or just as its value is written.
+    fn parse(text: &str) -> Word {
+        Word::named(text)
+            .or_else(|| Word::value(text))
+            .unwrap_or(Word::Unknown)
+    }
+
+    fn named(text: &str) -> Option<Word> {
+        Some(match text {
+            "t" => Word::Code(0),
+            "l" => Word::Code(1),
+            "r" => Word::Code(2),
+            "e" => Word::Code(3),
+            "w" => Word::Code(4),
+            "T" => Word::Code(5),
+            "E" => Word::Code(6),
+            "W" => Word::Code(7),
+            "up" => Word::Kind(Kind::Up),
+            "down" => Word::Kind(Kind::Down),
+            "long" => Word::Long,
+            "/" => Word::Bar,
+            "list" => Word::List,
+            "inf" => Word::Temperature(f32::INFINITY),
+            "-inf" => Word::Temperature(f32::NEG_INFINITY),
+            "nan" => Word::Temperature(f32::NAN),
+            _ => return None,
+        })
+    }
+
+    fn value(text: &str) -> Option<Word> {
+        if text.contains('.') {
+            return temperature::parse(text).map(Word::Temperature);
+        }
+        if let Some(digits) = text.strip_prefix('@') {
+            return cell_at(digits.as_bytes()).map(Word::Cell);
+        }
+        match text.strip_prefix('-') {
+            Some("0") => None,
+            Some(digits) if is_plain(digits) => {
+                let n = text.parse::<i32>().ok()?;
+                (n != i32::MIN).then_some(Word::Negative(n))
+            }
+            Some(_) => None,
+            None if is_plain(text) => text.parse().ok().map(Word::Number),
+            None => None,
         }
     }
-    n
-}
 
-// What a word without a name may be, by its first character and the point in it.
-fn guess(text: &[u8]) -> Word {
-    if text.len() == 0 {
-        return Word(b'?', 0);
-    }
-    let point = scan::find(text, 0, text.len(), b'.');
-    if point < text.len() {
-        return Word(b'#', temperature::read(text, point));
-    }
-    let n = (digits_of(text) % 0x1_0000_0000) as u32;
-    match text[0] {
-        b'@' => Word(b'&', address::read(text)),
-        b'-' => Word(b'$', n % out::BELOW + out::BELOW - 1),
-        _ => Word(b'%', n),
-    }
-}
-
-// Whether so many bytes at the front of a slice are a text.
-fn is_text(slice: &[u8; LENGTH], n: usize, text: &[u8]) -> bool {
-    let all: &[u8] = slice;
-    if all.len() < n {
-        return false;
-    }
-    check::same(&all[0..n], text)
-}
-
-// A word, which has a name or is just as its value is written. The level of an address is the number of its digits but one.
-fn read_word(text: &[u8]) -> Word {
-    let row = shapes::row_of(&NAMED, text);
-    if row < NAMES {
-        return Word(NAMED[ROW * row + 8], VALUES[row]);
-    }
-    let word = guess(text);
-    let level = ((text.len() % 15 + 13) % 15) as u32;
-    let mut written = [0u8; LENGTH];
-    let n = out::put(&mut written, 0, level, word.0, word.1);
-    if is_text(&written, n, text) {
-        return word;
-    }
-    Word(b'?', 0)
-}
-
-// Puts a word into the lists so many times from a place on, and answers the place after it. What does not fit is dropped.
-fn store(
-    word: Word,
-    times: u32,
-    from: usize,
-    kinds: &mut [u8; WORDS],
-    values: &mut [u32; WORDS],
-) -> usize {
-    let mut at = from;
-    let mut left = times;
-    while 0 < left {
-        if WORDS <= at {
-            return at;
+    pub fn number(self) -> Option<u32> {
+        match self {
+            Word::Number(n) => Some(n),
+            Word::Cell(n) => Some(n),
+            Word::Blank => Some(0),
+            _ => None,
         }
-        kinds[at] = word.0;
-        values[at] = word.1;
-        at += 1;
-        left -= 1;
     }
-    at
+
+    pub fn signed(self) -> Option<i32> {
+        match self {
+            Word::Number(n) => i32::try_from(n).ok(),
+            Word::Negative(n) => Some(n),
+            _ => None,
+        }
+    }
+
+    pub fn byte(self) -> Option<u8> {
+        match self {
+            Word::Number(n) => u8::try_from(n).ok(),
+            Word::Blank => Some(0),
+            _ => None,
+        }
+    }
+
+    // A number, or a temperature's bits.
+    pub fn bits(self) -> u32 {
+        match self {
+            Word::Number(n) => n,
+            Word::Cell(n) => n,
+            Word::Temperature(t) if !t.is_nan() => t.to_bits(),
+            Word::Temperature(_) => bits::NAN,
+            _ => 0,
+        }
+    }
+
+    pub fn code(self) -> Option<u8> {
+        match self {
+            Word::Code(code) => Some(code),
+            Word::Number(n) => u8::try_from(n).ok(),
+            _ => None,
+        }
+    }
+
+    pub fn temperature(self) -> Option<f32> {
+        match self {
+            Word::Temperature(t) => Some(t),
+            Word::Blank => Some(0.0),
+            _ => None,
+        }
+    }
+
+    pub fn kind(self) -> Option<Kind> {
+        match self {
+            Word::Kind(kind) => Some(kind),
+            _ => None,
+        }
+    }
+}
+
+// Whether digits have no zeros, and no sign, in front.
+pub fn is_plain(digits: &str) -> bool {
+    digits == "0" || digits.starts_with(|c| matches!(c, '1'..='9'))
+}
+
+// The cell of an address: the octant's digit, and a digit a level. At level 14 `address::read` drops the highest bit of the octants 4 to 7.
+fn cell_at(digits: &[u8]) -> Option<u32> {
+    let (octant, below) = digits.split_first()?;
+    let highest = if below.len() < 14 { b'7' } else { b'3' };
+    if *octant < b'0' || highest < *octant || 14 < below.len() {
+        return None;
+    }
+    if below.iter().any(|digit| !matches!(*digit, b'0'..=b'3')) {
+        return None;
+    }
+    Some(address::read(digits))
 }
 
 // How often a word stands there; too often where that is no number.
-fn times_of(text: &[u8]) -> u32 {
-    let word = read_word(text);
-    if word.0 == b'%' { word.1 } else { out::BELOW }
+fn times(text: &str) -> usize {
+    match Word::parse(text) {
+        Word::Number(n) => n as usize,
+        _ => WORDS,
+    }
 }
 
-// Reads the words of a text from a place on into the lists from another on, and answers the place after them.
-pub fn read(
-    text: &[u8],
-    start: usize,
-    from: usize,
-    kinds: &mut [u8; WORDS],
-    values: &mut [u32; WORDS],
-) -> usize {
-    let mut count = from;
-    let mut at = start;
-    while at < text.len() {
-        let end = scan::find(text, at, text.len(), b' ');
-        let star = scan::find(text, at, end, b'*');
-        if star < end {
-            let times = times_of(&text[at..star]);
-            count = store(read_word(&text[star + 1..end]), times, count, kinds, values);
-        } else if at < end {
-            count = store(read_word(&text[at..end]), 1, count, kinds, values);
+// Reads the words of a line behind its name. What does not fit is dropped.
+pub fn read_line(alloc: Global, line: &[u8], words: &mut Vec<Word>) -> Result<(), AllocError> {
+    let line = String::from_utf8_lossy(alloc, line)?;
+    for text in line
+        .as_str()
+        .split(' ')
+        .skip(1)
+        .filter(|text| !text.is_empty())
+    {
+        let (times, word) = match text.split_once('*') {
+            Some((count, word)) => (times(count), word),
+            None => (1, text),
+        };
+        let word = Word::parse(word);
+        for _ in 0..times.min(WORDS.saturating_sub(words.len())) {
+            words.push(word)?;
         }
-        at = end + 1;
     }
-    count
+    Ok(())
 }

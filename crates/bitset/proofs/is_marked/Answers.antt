@@ -1,13 +1,13 @@
--- `is_marked` meets its contract: the byte and the bit are those of the definition, and past the end there is neither. Assumes nothing.
-use mathlib.Core.Path.{refl, sym}
+-- The byte and the bit are those of the definition, and past the end there is neither.
+use mathlib.Core.Path.{sym}
 use native.Mathlib.Omega.{arith}
 use Rattle.bitset.specs.Bits.{bit, marked}
 use Rattle.bitset.proofs.Laws.{marked_past}
 use Rattle.bitset.proofs.is_marked.Goals as goal
 
-pub returns-then-mask-i : goal.returns-then-mask-i
-returns-then-mask-i c = let a = c.args in sym (marked_past a.mask.now a.cell (omega arith))
-
-pub returns : goal.returns
+pub returns-in-Some : goal.returns-in-Some
 unfolding marked bit
-returns c = refl
+returns-in-Some c = rw (c.in-Some.ensures.lookup.3.1 0)
+
+pub returns-in-None : goal.returns-in-None
+returns-in-None c = sym (marked_past c.args.mask.now c.args.cell (omega (arith, c.in-None.ensures.lookup.3)))

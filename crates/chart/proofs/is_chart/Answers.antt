@@ -1,40 +1,26 @@
--- `is_chart` meets its contract, test by test. Assumes nothing.
+-- Each slice has as many items as the level has cells, as the code shifts them, or it has not.
 use Prim.Native.Nat.{◌≤◌}
-use mathlib.Core.Path.{◌≡◌}
 use native.Mathlib.Omega.{arith}
-use borrow.Author.Tests.{lt-ltb, le-ltb, eq-eqb, ne_eqb}
-use lib.ListN.{length}
-use Rattle.cell.specs.Cell.{cells}
+use borrow.Author.Tests.{le-ltb, eq-eqb, ne_eqb}
 use Rattle.mask.specs.Mask.{max_mask_level}
 use Rattle.mask.proofs.Laws.{level_shifted}
 use Rattle.chart.proofs.is_chart.Goals as goal
-use Rattle.chart.proofs.is_chart.Goals.{Else-temperatures-cells}
-
-pub returns-then-level-gt-MAX_MASK_LEVEL : goal.returns-then-level-gt-MAX_MASK_LEVEL
-returns-then-level-gt-MAX_MASK_LEVEL c = simp (lt-ltb max_mask_level c.args.level (omega arith))
+use Rattle.chart.proofs.is_chart.Goals.{then-temperatures-cells-via-then-temperatures-cells, then-temperatures-cells-via-else-temperatures-cells+then-ages-cells}
 
 pub returns-then-temperatures-cells : goal.returns-then-temperatures-cells
 returns-then-temperatures-cells c =
-    let a = c.args in
-    let h : a.level ≤ max_mask_level = omega arith in
-    let n : length a.temperatures.now ≡ cells a.level → ⊥ = λ q. omega (arith, level_shifted 64 8 a.level h (omega arith)) in
-    simp (le-ltb max_mask_level a.level h, ne_eqb _ _ n)
-
-first : (c : Else-temperatures-cells) → let a = c.args in length a.temperatures.now ≡ cells a.level
-first c =
-    let h : c.args.level ≤ max_mask_level = omega arith in
-    omega (arith, level_shifted 64 8 c.args.level h (omega arith))
-
-pub returns-then-ages-cells : goal.returns-then-ages-cells
-returns-then-ages-cells c =
-    let a = c.args in
-    let h : a.level ≤ max_mask_level = omega arith in
-    let n : length a.ages.now ≡ cells a.level → ⊥ = λ q. omega (arith, level_shifted 64 8 a.level h (omega arith)) in
-    simp (le-ltb max_mask_level a.level h, eq-eqb _ _ (first (goal.at.returns-then-ages-cells c).Else-temperatures-cells), ne_eqb _ _ n)
+    let k = c.args.level in
+    let h : k ≤ max_mask_level = omega arith in
+    let s = level_shifted 64 8 k h (omega arith) in
+    elim c.then-temperatures-cells.branch [
+      | then-temperatures-cells-via-then-temperatures-cells w ↦ simp (le-ltb max_mask_level k h, ne_eqb _ _ (rw s at w.if-temperatures-cells.true))
+      | then-temperatures-cells-via-else-temperatures-cells+then-ages-cells w ↦
+          simp (le-ltb max_mask_level k h, eq-eqb _ _ (rw s at w.if-temperatures-cells.false), ne_eqb _ _ (rw s at w.if-ages-cells.true))
+    ]
 
 pub returns : goal.returns
 returns c =
-    let a = c.args in
-    let h : a.level ≤ max_mask_level = omega arith in
-    let n : length a.ages.now ≡ cells a.level = omega (arith, level_shifted 64 8 a.level h (omega arith)) in
-    simp (le-ltb max_mask_level a.level h, eq-eqb _ _ (first (goal.at.returns c).Else-temperatures-cells), eq-eqb _ _ n)
+    let k = c.args.level in
+    let h : k ≤ max_mask_level = omega arith in
+    let s = level_shifted 64 8 k h (omega arith) in
+    simp (le-ltb max_mask_level k h, eq-eqb _ _ (rw s at c.if-temperatures-cells.false), eq-eqb _ _ (rw s at c.if-ages-cells.false))

@@ -1,34 +1,29 @@
--- `rewrite` meets its contract. The invariant: the cells passed are as the day leaves them, the others as they were, and the summary is that of the
--- cells passed. The measure is what is left of the cells. Assumes nothing.
+-- One cell more is as the day leaves it, and past the last one all are.
 use Prim.Native.Nat.{ℕ}
 use mathlib.Core.Path.{◌≡◌, refl, sym, ap, subst, ◌∙◌}
 use native.Mathlib.Omega.{arith}
 use lib.Ieee as Ieee
 use lib.Ieee.{Float}
-use lib.ListN.{length, length-set}
+use lib.ListN.{length}
 use Rattle.chart.specs.Chart.{in_range, reading_of}
 use Rattle.day.specs.Day.{day_at, temperatures_after, ages_after, Summary, summary_of, summary_after, summary_is}
 use Rattle.day.proofs.Days.{Rewritten, none_rewritten, cell_rewritten, all_rewritten, same_cell, count_le}
 use Rattle.day.proofs.DayLaws.{fresh_inside}
 use Rattle.day.proofs.rewrite.Goals as goal
-use Rattle.day.proofs.rewrite.Goals.{After-cell_after-after, After-loop-i}
+use Rattle.day.proofs.rewrite.Goals.{After-cell_after-temperature, After-loop-i}
 
 pub loop-i-init : goal.loop-i-init
 unfolding Ieee.of_bits
 loop-i-init c =
     let a = c.args in
-    let f = day_at a.limit a.new.now a.clouds.now a.temperatures.now a.ages.now in
-    (omega arith, refl, refl, none_rewritten f a.temperatures.now a.ages.now _ refl)
+    none_rewritten (day_at a.limit a.new.now a.clouds.now a.temperatures.now a.ages.now) a.temperatures.now a.ages.now _ refl
 
 -- the cell is as the day leaves it
-cell-left : (c : After-cell_after-after) → let a = c.args in
-    (c.cell_after-after.result.temperature, c.cell_after-after.result.age)
-    ≡ day_at a.limit a.new.now a.clouds.now a.temperatures.now a.ages.now c.loop-i.i
+cell-left : (c : After-cell_after-temperature) → let a = c.args in c.cell_after-temperature.result ≡ day_at a.limit a.new.now a.clouds.now a.temperatures.now a.ages.now c.loop-i.i
 cell-left c =
-    let l = c.loop-i in
-    let r = l.invariant.3 in
-    let covered = c.is_marked-covered.ensures in
-    c.cell_after-after.ensures ∙ same_cell _ _ _ _ _ _ _ _ covered (r.warmth_rest l.i (omega arith)) (r.age_rest l.i (omega arith))
+    let i = c.loop-i.i in
+    let r = c.loop-i.invariant in
+    c.cell_after-temperature.ensures ∙ same_cell _ _ _ _ _ _ _ _ c.is_marked-covered.ensures (r.warmth_rest i (omega arith)) (r.age_rest i (omega arith))
 
 pub with_cell-summary-requires : goal.with_cell-summary-requires
 with_cell-summary-requires c =
@@ -36,28 +31,15 @@ with_cell-summary-requires c =
     let a = c.args in
     let f = day_at a.limit a.new.now a.clouds.now a.temperatures.now a.ages.now in
     let e = cell-left c in
-    let n : l.summary.count ≡ (summary_of l.i (λ i. reading_of (f i).0 (f i).1)).count = ap (λ (s : Summary). s.count) l.invariant.3.summed in (
+    let n : l.summary.count ≡ (summary_of l.i (λ i. reading_of (f i).0 (f i).1)).count = ap (λ (s : Summary). s.count) l.invariant.summed in (
       omega (arith, n, count_le l.i (λ i. reading_of (f i).0 (f i).1)),
       λ z. ap (λ (p : Float × ℕ). in_range p.0) e ∙ fresh_inside _ _ _ _ _ (sym (ap (λ (p : Float × ℕ). p.1) e) ∙ z),
     )
 
-pub loop-i-smaller : goal.loop-i-smaller
-loop-i-smaller c = simp length-set (omega arith)
-
-pub shape_of-temperatures : goal.shape_of-temperatures
-shape_of-temperatures c = c.loop-i.invariant.1
-
-pub shape_of-ages : goal.shape_of-ages
-shape_of-ages c = c.loop-i.invariant.2
-
 pub loop-i-preserved : goal.loop-i-preserved
 loop-i-preserved c =
-    let l = c.loop-i in (
-      simp length-set (omega arith),
-      simp length-set l.invariant.1,
-      simp length-set l.invariant.2,
-      cell_rewritten _ _ _ _ _ _ l.i _ _ _ (omega arith) (omega arith) l.invariant.3 (cell-left (goal.at.loop-i-preserved c).After-cell_after-after) c.with_cell-summary.ensures,
-    )
+    let l = c.loop-i in
+    cell_rewritten _ _ _ _ _ _ l.i _ _ _ (omega arith) (omega arith) l.invariant (cell-left (goal.at.loop-i-preserved c).After-cell_after-temperature) c.with_cell-summary.ensures
 
 -- past the last cell the slices and the summary are those of the day
 passed : (c : After-loop-i) →
@@ -74,7 +56,7 @@ passed c =
     let f = day_at a.limit a.new.now a.clouds.now a.temperatures.now a.ages.now in
     let n = length {A = Float} a.temperatures.now in
     let e : l.i ≡ n = omega arith in
-    let r = subst (Rewritten f a.temperatures.now a.ages.now l.temperatures l.ages (summary_is l.summary)) e l.invariant.3 in
+    let r = subst (Rewritten f a.temperatures.now a.ages.now l.temperatures l.ages (summary_is l.summary)) e l.invariant in
     all_rewritten f a.temperatures.now a.ages.now l.temperatures l.ages (summary_is l.summary) n (omega arith) (omega arith) r
 
 pub returns-clause-temperatures : goal.returns-clause-temperatures

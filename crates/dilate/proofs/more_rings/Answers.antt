@@ -14,17 +14,17 @@ use Rattle.dilate.proofs.more_rings.Goals as goal
 use Rattle.dilate.proofs.more_rings.Goals.{After-mark_inside}
 
 -- the first array has the level's points
-within : (c : After-mark_inside) → (i : ℕ) → lit c.mark_inside.new.out i ≡ inside c.args.level i
+within : (c : After-mark_inside) → (i : ℕ) → lit c.mark_inside.new.out i ≡ inside c.args.level.k i
 within c =
-    past_test (leb c.args.level 8) _ (inside c.args.level) (lit c.args.within.now) (le-leb c.args.level 8 c.requires.0) c.mark_inside.ensures
+    past_test (leb c.args.level.k 8) _ (inside c.args.level.k) (lit c.args.within.now) (le-leb c.args.level.k 8 c.args.level.bounded) c.mark_inside.ensures
 
 pub loop-left-init : goal.loop-left-init
 loop-left-init c =
-    ((0, omega arith, λ A p. no_more c.args.level A _ p), c.requires.1, c.requires.2)
+    ((0, omega arith, λ A p. no_more c.args.level.k A _ p), c.requires.0, c.requires.1)
 
 pub loop-left-preserved : goal.loop-left-preserved
 loop-left-preserved c =
-    let k = c.args.level in
+    let k = c.args.level.k in
     let d = c.loop-left.invariant.0 in
     let two : (A : ℕ → Bool) → Points k (lit c.args.points.now) A → Points k (lit c.ring-in-loop-left.new.next) (grown_cells k (1 + (1 + d.0)) A) =
     λ A p.
@@ -34,14 +34,14 @@ loop-left-preserved c =
 
 pub returns-then-left-eq1 : goal.returns-then-left-eq1
 returns-then-left-eq1 c A p =
-    let k = c.args.level in
+    let k = c.args.level.k in
     let d = c.loop-left.invariant.0 in
     let e : 1 + d.0 ≡ c.args.rings = omega (arith, d.1, c.if-left-eq1.true) in
     as_many k (1 + d.0) _ A _ e (after k 1 d.0 A _ (c.ring-then-left-eq1.ensures.spreads (grown_cells k d.0 A) (d.2 A p)))
 
 pub returns-else-left-eq1 : goal.returns-else-left-eq1
 returns-else-left-eq1 c A p =
-    let k = c.args.level in
+    let k = c.args.level.k in
     let d = c.loop-left.invariant.0 in
     let e : d.0 ≡ c.args.rings = omega (arith, d.1, c.if-left-eq1.false, c.loop-left-test.false) in
     as_many k d.0 _ A _ e (d.2 A p)

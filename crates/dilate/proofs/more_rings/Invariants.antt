@@ -10,7 +10,7 @@ use Rattle.dilate.proofs.more_rings.Given as goal
 abbrev pub invariant-loop-left : goal.invariant-loop-left
 invariant-loop-left l =
     ((d : ℕ) × (d + l.left ≡ l.rings)
-    × ((A : ℕ → Bool) → Points l.level (lit l.initial.points) A → Points l.level (lit l.points) (grown_cells l.level d A)))
+    × ((A : ℕ → Bool) → Points l.level.k (lit l.initial.points) A → Points l.level.k (lit l.points) (grown_cells l.level.k d A)))
     × ((i : ℕ) → in_rows i ≡ false → lit l.points i ≡ false)
     × ((i : ℕ) → in_rows i ≡ false → lit l.next i ≡ false)
 

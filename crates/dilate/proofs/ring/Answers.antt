@@ -12,4 +12,4 @@ returns c =
     let P = lit a.points.now in
     let N = lit a.next.now in
     let W = lit a.within.now in
-    record { spreads = ring_spreads a.level h.0 P N W _ _ near join h.2 h.1; clear = ring_clear a.level h.0 P N W _ _ near join h.2 }
+    record { spreads = ring_spreads a.level.k a.level.bounded P N W _ _ near join h.1 h.0; clear = ring_clear a.level.k a.level.bounded P N W _ _ near join h.1 }

@@ -1,27 +1,31 @@
--- `fill` meets its contract: a call that its tests refuse leaves the slice, and of any other what the search reached is complemented. Assumes nothing.
-use mathlib.Core.Path.{◌≡◌, sym, ap, ◌∙◌}
-use native.Mathlib.Omega.{arith}
+-- `fill` meets its contract: of a call that its tests let pass what the search reached is complemented. Assumes nothing.
+use mathlib.Core.Path.{◌≡◌}
 use Rattle.refusal.specs.Answer.{given, in_order, done}
-use Rattle.refusal.specs.Outcome.{said_outcome}
+use Rattle.refusal.proofs.Answers.{passed, gives}
 use Rattle.fill.specs.Fill.{fill_tests}
-use Rattle.fill.proofs.Answers.{ready, fill_refused, fill_done}
+use Rattle.fill.proofs.Answers.{ready, fill_done}
 use Rattle.fill.proofs.fill.Goals as goal
-use Rattle.fill.proofs.fill.Goals.{In-Done}
+use Rattle.fill.proofs.fill.Goals.{In_ok-level}
 
--- no test refused
-told : (c : In-Done) → let a = c.args in given done ≡ in_order (fill_tests a.level a.border.now a.outside a.out.now) done
-told c = sym (ap said_outcome c.in-Done.is) ∙ c.fill_tests.ensures
+-- past the tests none applies, and the level is the one that was given
+known : (c : In_ok-level) →
+    let a = c.args in
+    (given done ≡ in_order (fill_tests a.level a.border.now a.outside a.out.now) done) × (a.level ≡ c.in_ok-level.level.k)
+known c =
+    let a = c.args in
+    let ts = fill_tests a.level a.border.now a.outside a.out.now in
+    let p = passed ts a.level _ c.in_ok-level.ensures in
+    (gives ts done p.0, p.1)
 
 pub reach_all-requires : goal.reach_all-requires
 reach_all-requires c =
-    let a = c.args in
-    let r = ready a.level a.border.now a.outside a.out.now (told (goal.at.reach_all-requires c).In-Done) in
-    omega (arith, r.level, r.written, r.cell)
+    let k = known (goal.at.reach_all-requires c).In_ok-level in
+    let r = ready _ _ _ _ k.0 in
+    rw (← k.1) (r.read, r.written, r.cell)
 
-pub returns-in-Done : goal.returns-in-Done
-returns-in-Done c =
+pub returns : goal.returns
+returns c =
     let a = c.args in
-    fill_done a.level a.border.now a.outside a.out.now _ _ (told (goal.at.returns-in-Done c).In-Done) c.reach_all.ensures c.complement.ensures
-
-pub returns-in-Refused : goal.returns-in-Refused
-returns-in-Refused c = search fill_refused
+    let l = c.in_ok-level.level in
+    let k = known (goal.at.returns c).In_ok-level in
+    rw k.1 (fill_done l.k a.border.now a.outside a.out.now _ _ (rw k.1 at k.0) c.reach_all.ensures c.complement.ensures)

@@ -1,21 +1,10 @@
 -- `flood` meets its contract. The invariant: spots are added, none wrongly, and after a round that changed nothing the set is closed.
 -- The measure is the spots not yet set, while there is a round to go. Assumes nothing.
-use mathlib.Core.Path.{refl}
 use native.Mathlib.Omega.{arith}
-use Rattle.refusal.proofs.Tests.{clash}
-use Rattle.flood.proofs.Turns.{added_none, added_more, turn_closed}
+use Rattle.cell.proofs.Answers.{given_level}
+use Rattle.flood.proofs.Turns.{added_more, turn_closed}
 use Rattle.flood.proofs.Left.{rounds_less}
 use Rattle.flood.proofs.flood.Goals as goal
-
-pub returns-then-level-gt-MAX_MASK_LEVEL : goal.returns-then-level-gt-MAX_MASK_LEVEL
-returns-then-level-gt-MAX_MASK_LEVEL c = record {
-  added = added_none;
-  closed = λ h. absurd (omega arith);
-  past = λ h. (refl, refl);
-}
-
-pub loop-changed-init : goal.loop-changed-init
-loop-changed-init c = (added_none, λ e. clash refl e)
 
 pub loop-changed-smaller : goal.loop-changed-smaller
 loop-changed-smaller c =
@@ -29,8 +18,10 @@ loop-changed-preserved c =
 pub returns : goal.returns
 returns c =
     let l = c.loop-changed in
-    record {
+    let k = c.in-Ok.level in
+    let g = given_level _ _ _ c.in-Ok.ensures in
+    rw g.1 (record {
       added = l.invariant.0;
       closed = λ h. l.invariant.1 c.loop-changed-test.false;
-      past = λ h. absurd (omega arith);
-    }
+      past = λ h. absurd (omega (arith, k.bounded));
+    })

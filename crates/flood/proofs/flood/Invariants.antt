@@ -7,7 +7,7 @@ use Rattle.flood.proofs.flood.Given as goal
 
 abbrev pub invariant-loop-changed : goal.invariant-loop-changed
 invariant-loop-changed l =
-    Added (Near l.level) l.open_up l.open_down l.initial.up l.initial.down l.up l.down × (l.changed ≡ false → Closed (Near l.level) l.open_up l.open_down (lit_of l.up l.down))
+    Added (Near l.level.k) l.opened.up l.opened.down l.initial.reached.up l.initial.reached.down l.reached.up l.reached.down × (l.changed ≡ false → Closed (Near l.level.k) l.opened.up l.opened.down (lit_of l.reached.up l.reached.down))
 
 abbrev pub decreases-loop-changed : goal.decreases-loop-changed
-decreases-loop-changed l = cond l.changed (unset l.up l.down + 1) 0
+decreases-loop-changed l = cond l.changed (unset l.reached.up l.reached.down + 1) 0

@@ -6,4 +6,4 @@ use Rattle.flood.proofs.go_round.Goals as goal
 pub returns : goal.returns
 returns c =
     let a = c.args in
-    turn_join (λ s t i j m. inl m) (λ s t i j m. inr m) (λ s t i j m. m) c.sweep-inside.ensures (c.reach_over-over.ensures a.open_down.now _)
+    turn_join (λ s t i j m. inl m) (λ s t i j m. inr m) (λ s t i j m. m) c.sweep-inside.ensures (c.reach_over-over.ensures a.opened.now.down _)

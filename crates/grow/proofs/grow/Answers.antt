@@ -1,14 +1,22 @@
--- `grow` meets its contract: a call that its tests refuse leaves both slices, and any other writes them. Assumes nothing.
-use Rattle.grow.proofs.Answers.{rings_ready, rings_refused, rings_done}
+-- What is copied is the mask, and it is grown in place.
+use mathlib.Core.Path.{ap, ◌∙◌}
+use mathlib.Core.List.{List}
+use Prim.Native.Nat.{ℕ}
+use Rattle.dilate.specs.Dilate.{dilated}
+use Rattle.dilate.proofs.Laws.{dilated_mask}
+use Rattle.std.proofs.Common.{rules}
+use Rattle.grow.proofs.Answers.{ready, refused_alike, prepared, rings_done}
 use Rattle.grow.proofs.grow.Goals as goal
 
-pub grow_into-requires : goal.grow_into-requires
-grow_into-requires c =
+pub returns-in_err-prepare : goal.returns-in_err-prepare
+returns-in_err-prepare c = search (rules, refused_alike)
+
+pub returns : goal.returns
+returns c =
     let a = c.args in
-    rings_ready a.level a.rings a.mask.now a.out.now a.work.now _ c.in-Done.is c.ring_tests.ensures
-
-pub returns-in-Refused : goal.returns-in-Refused
-returns-in-Refused c = search rings_refused
-
-pub returns-in-Done : goal.returns-in-Done
-returns-in-Done c = search rings_done
+    let p = prepared _ _ _ _ c.in_ok-prepare.ensures in
+    let r = ready a.level a.rings a.mask.now a.grown.now a.work.now p.0 in
+    let e = ap (λ (s : List ℕ × List ℕ). dilated a.level a.rings s.0) p.1 in
+    rings_done a.level a.rings a.mask.now a.grown.now a.work.now _ _ _ _ p.0
+    (c.dilate.ensures ∙ e ∙ dilated_mask a.level a.rings a.mask.now r.level r.read)
+    (ap (λ (s : List ℕ × List ℕ). s.1) p.1)

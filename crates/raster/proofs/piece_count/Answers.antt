@@ -8,10 +8,10 @@ use Rattle.raster.proofs.piece_count.Goals as goal
 
 pub returns-then-level-lt3 : goal.returns-then-level-lt3
 returns-then-level-lt3 c =
-    let k = c.args.level in
+    let k = c.args.level.k in
     level_shifted 32 8 k (omega arith) (omega arith) ∙ sym (small_size k c.if-level-lt3.true).1
 
 pub returns-else-level-lt3 : goal.returns-else-level-lt3
 returns-else-level-lt3 c =
-    let k = c.args.level in
+    let k = c.args.level.k in
     level_shifted 32 8 (k - 3) (omega arith) (omega arith) ∙ sym (block_size k c.if-level-lt3.false).1

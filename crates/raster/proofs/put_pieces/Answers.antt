@@ -1,5 +1,4 @@
--- `put_pieces` meets its contract. The invariant: the marked cells of the first `n` pieces are set besides. The measure is the number of pieces left.
--- Assumes nothing.
+-- `put_pieces` meets its contract. The invariant: the marked cells of the first `n` pieces are set besides. Assumes nothing.
 use mathlib.Core.Path.{◌≡◌}
 use native.Mathlib.Omega.{arith}
 use Rattle.bitset.specs.Bits.{marked}
@@ -11,12 +10,11 @@ use Rattle.raster.proofs.put_pieces.Goals as goal
 pub loop-n-init : goal.loop-n-init
 loop-n-init c =
     let a = c.args in
-    let none = earlier_none (piece_size a.level) (marked a.mask.now) in
-    (omega arith, added_none Up a.level _ a.up.now (λ x h. none x), added_none Down a.level _ a.down.now (λ x h. none x))
+    let none = earlier_none (piece_size a.level.k) (marked a.mask.now) in
+    (added_none Up a.level.k _ a.rows.now.up (λ x h. none x), added_none Down a.level.k _ a.rows.now.down (λ x h. none x))
 
 pub put_piece-requires : goal.put_piece-requires
-put_piece-requires c =
-    (c.requires.0, omega (arith, c.piece_count-count.ensures), c.requires.1)
+put_piece-requires c = (omega arith, c.requires)
 
 pub loop-n-preserved : goal.loop-n-preserved
 loop-n-preserved c =
@@ -24,9 +22,8 @@ loop-n-preserved c =
     let l = c.loop-n in
     let m = marked a.mask.now in
     let p = c.put_piece.ensures in (
-      omega arith,
-      added_more Up a.level (piece_size a.level) l.n m a.up.now l.up _ l.invariant.1 p.ups,
-      added_more Down a.level (piece_size a.level) l.n m a.down.now l.down _ l.invariant.2 p.downs,
+      added_more Up a.level.k (piece_size a.level.k) l.n m a.rows.now.up l.rows.up _ l.invariant.0 p.ups,
+      added_more Down a.level.k (piece_size a.level.k) l.n m a.rows.now.down l.rows.down _ l.invariant.1 p.downs,
     )
 
 pub returns : goal.returns
@@ -34,8 +31,8 @@ returns c =
     let a = c.args in
     let l = c.loop-n in
     let m = marked a.mask.now in
-    let e : l.n ≡ piece_count a.level = omega (arith, c.piece_count-count.ensures) in
+    let e : l.n ≡ piece_count a.level.k = omega arith in
     record {
-      ups = added_same Up a.level (earlier (piece_size a.level) l.n m) m a.up.now l.up (λ x h. earlier_all a.level l.n m x e h) l.invariant.1;
-      downs = added_same Down a.level (earlier (piece_size a.level) l.n m) m a.down.now l.down (λ x h. earlier_all a.level l.n m x e h) l.invariant.2;
+      ups = added_same Up a.level.k (earlier (piece_size a.level.k) l.n m) m a.rows.now.up l.rows.up (λ x h. earlier_all a.level.k l.n m x e h) l.invariant.0;
+      downs = added_same Down a.level.k (earlier (piece_size a.level.k) l.n m) m a.rows.now.down l.rows.down (λ x h. earlier_all a.level.k l.n m x e h) l.invariant.1;
     }

@@ -1,5 +1,4 @@
--- `take_pieces` meets its contract. The invariant: marked are the cells of the first `n` pieces whose spots are set. The measure is the number of pieces
--- left. Assumes nothing.
+-- `take_pieces` meets its contract. The invariant: marked are the cells of the first `n` pieces whose spots are set. Assumes nothing.
 use Prim.Native.Nat.{ℕ, ◌^◌}
 use mathlib.Core.Path.{◌≡◌, sym, ap, ◌∙◌}
 use mathlib.Core.List.{List}
@@ -17,11 +16,10 @@ pub loop-n-init : goal.loop-n-init
 loop-n-init c =
     let a = c.args in
     let k = c.clear in (
-      omega arith,
-      k.auto.mask ∙ c.requires.1,
+      k.auto.mask ∙ c.requires,
       (λ i. (c.type_inv.mask i).fits),
       (λ x. ap (λ (l : List ℕ). marked l x) k.ensures ∙ marked_zeros (length a.mask.now) x
-          ∙ sym (earlier_none (piece_size a.level) (cell_lit a.level a.up.now a.down.now) x)),
+          ∙ sym (earlier_none (piece_size a.level.k) (cell_lit a.level.k a.rows.now.up a.rows.now.down) x)),
     )
 
 pub take_piece-requires : goal.take_piece-requires
@@ -29,8 +27,8 @@ take_piece-requires c =
     let a = c.args in
     let l = c.loop-n in
     record {
-      level_le_max_mask_level = (c.requires.0, omega (arith, c.piece_count-count.ensures), l.invariant.1);
-      by_index = λ x e. l.invariant.3 x ∙ earlier_not (piece_size a.level) l.n (cell_lit a.level a.up.now a.down.now) x e;
+      in_mask = (omega arith, l.invariant.0);
+      by_index = λ x e. l.invariant.2 x ∙ earlier_not (piece_size a.level.k) l.n (cell_lit a.level.k a.rows.now.up a.rows.now.down) x e;
     }
 
 pub loop-n-preserved : goal.loop-n-preserved
@@ -38,19 +36,18 @@ loop-n-preserved c =
     let a = c.args in
     let l = c.loop-n in
     let p = c.take_piece in (
-      omega arith,
-      p.auto.mask ∙ l.invariant.1,
+      p.auto.mask ∙ l.invariant.0,
       (λ i. (c.type_inv.mask i).fits),
-      marked_more (piece_size a.level) l.n (cell_lit a.level a.up.now a.down.now) l.mask _ l.invariant.3 p.ensures,
+      marked_more (piece_size a.level.k) l.n (cell_lit a.level.k a.rows.now.up a.rows.now.down) l.mask _ l.invariant.2 p.ensures,
     )
 
 pub shape_of-mask : goal.shape_of-mask
-shape_of-mask c = c.loop-n.invariant.1 ∙ sym c.requires.1
+shape_of-mask c = c.loop-n.invariant.0 ∙ sym c.requires
 
 pub returns : goal.returns
 returns c =
     let a = c.args in
     let l = c.loop-n in
-    let A = cell_lit a.level a.up.now a.down.now in
-    let e : l.n ≡ piece_count a.level = omega (arith, c.piece_count-count.ensures) in
-    settled (4 ^ a.level) l.mask A l.invariant.1 l.invariant.2 (λ x h. l.invariant.3 x ∙ earlier_all a.level l.n A x e h)
+    let A = cell_lit a.level.k a.rows.now.up a.rows.now.down in
+    let e : l.n ≡ piece_count a.level.k = omega arith in
+    settled (4 ^ a.level.k) l.mask A l.invariant.0 l.invariant.1 (λ x h. l.invariant.2 x ∙ earlier_all a.level.k l.n A x e h)

@@ -1,26 +1,21 @@
--- `put_line` meets its contract: two counts piece after piece, or the line of a refusal. Assumes nothing.
-use mathlib.Core.Path.{◌≡◌}
+-- Two counts piece after piece, or the line of a refusal.
 use native.Mathlib.Omega.{arith}
-use borrow.Author.Rules.{rules}
-use lib.ListN.{length}
 use Rattle.text.proofs.Laws.{refusal_alone}
 use Rattle.ring_counter.proofs.Lines.{counts_line}
 use Rattle.ring_counter.proofs.put_line.Goals as goal
 
-pub returns-in-Counts : goal.returns-in-Counts
-returns-in-Counts c =
-    let e : length c.args.out.now ≡ 64 = search rules in
+pub returns-in-Ok : goal.returns-in-Ok
+returns-in-Ok c =
     let l =
-    counts_line c.args.out.now _ _ _ _ _ _ _ _ _ _ e
+    counts_line c.args.out.now _ _ _ _ _ _ _ _ _ _ c.told-out
     c.append_decimal-a.ensures
     c.append-b.ensures
     c.append_decimal-c.ensures
     c.append.ensures
     in
-    record { fits = l.0; text = rw c.in-Counts.is l.1 }
+    record { fits = l.0; text = rw c.in-Ok.is (simp (c.from.ensures, c.from-in-Ok.ensures) at l.1) }
 
-pub returns-in-Refused : goal.returns-in-Refused
-returns-in-Refused c =
-    let e : length c.args.out.now ≡ 64 = search rules in
-    let l = refusal_alone c.args.out.now _ _ _ (omega arith) c.append_refusal.ensures in
-    record { fits = l.0; text = rw c.in-Refused.is l.1 }
+pub returns-in-Err : goal.returns-in-Err
+returns-in-Err c =
+    let l = refusal_alone c.args.out.now _ _ _ (omega (arith, c.told-out)) c.append_refusal.ensures in
+    record { fits = l.0; text = rw c.in-Err.is (rw c.number.ensures at l.1) }

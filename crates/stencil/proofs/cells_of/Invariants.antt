@@ -1,12 +1,11 @@
-use Prim.Native.Nat.{◌≤◌, ◌-◌}
-use Rattle.rows.specs.Rows.{lit, first_word, cells_end}
-use Rattle.stencil.specs.Stencil.{up_of, down_of}
+use mathlib.Core.Path.{◌≡◌}
+use lib.ListN.{length}
 use Rattle.stencil.proofs.Loops.{Written}
+use Rattle.rows.specs.Rows.{lit, word_count, first_word}
+use Rattle.stencil.specs.Stencil.{up_of, down_of}
 use Rattle.stencil.proofs.cells_of.Given as goal
 
 abbrev pub invariant-loop-w : goal.invariant-loop-w
 invariant-loop-w l =
-    (first_word ≤ l.w) × (l.w ≤ cells_end) × Written first_word l.w (up_of (lit l.points)) l.initial.up l.up × Written first_word l.w (down_of (lit l.points)) l.initial.down l.down
-
-abbrev pub decreases-loop-w : goal.decreases-loop-w
-decreases-loop-w l = cells_end - l.w
+    ((length l.cells.up ≡ word_count) × Written first_word l.w (up_of (lit l.points)) l.initial.cells.up l.cells.up)
+    × ((length l.cells.down ≡ word_count) × Written first_word l.w (down_of (lit l.points)) l.initial.cells.down l.cells.down)

@@ -1,12 +1,10 @@
-use Prim.Native.Nat.{◌≤◌, ◌-◌}
-use mathlib.Core.Bool.{◌&&◌}
-use Rattle.rows.specs.Rows.{lit, first_word}
-use Rattle.stencil.specs.Stencil.{near_of, points_end}
+use mathlib.Core.Path.{◌≡◌}
+use lib.ListN.{length}
 use Rattle.stencil.proofs.Loops.{Written}
+use mathlib.Core.Bool.{◌&&◌}
+use Rattle.rows.specs.Rows.{lit, word_count, first_word}
+use Rattle.stencil.specs.Stencil.{near_of}
 use Rattle.stencil.proofs.near.Given as goal
 
 abbrev pub invariant-loop-w : goal.invariant-loop-w
-invariant-loop-w l = (first_word ≤ l.w) × (l.w ≤ points_end) × Written first_word l.w (λ i. lit l.within i && near_of (lit l.points) i) l.initial.out l.out
-
-abbrev pub decreases-loop-w : goal.decreases-loop-w
-decreases-loop-w l = points_end - l.w
+invariant-loop-w l = (length l.out ≡ word_count) × Written first_word l.w (λ i. lit l.within i && near_of (lit l.points) i) l.initial.out l.out

@@ -1,11 +1,9 @@
-use Prim.Native.Nat.{◌≤◌, ◌-◌}
-use Rattle.rows.specs.Rows.{lit, first_word}
-use Rattle.stencil.specs.Stencil.{points_of, points_end}
+use mathlib.Core.Path.{◌≡◌}
+use lib.ListN.{length}
 use Rattle.stencil.proofs.Loops.{Written}
+use Rattle.rows.specs.Rows.{lit, word_count, first_word}
+use Rattle.stencil.specs.Stencil.{points_of}
 use Rattle.stencil.proofs.points_of.Given as goal
 
 abbrev pub invariant-loop-w : goal.invariant-loop-w
-invariant-loop-w l = (first_word ≤ l.w) × (l.w ≤ points_end) × Written first_word l.w (points_of (lit l.up) (lit l.down)) l.initial.points l.points
-
-abbrev pub decreases-loop-w : goal.decreases-loop-w
-decreases-loop-w l = points_end - l.w
+invariant-loop-w l = (length l.points ≡ word_count) × Written first_word l.w (points_of (lit l.cells.up) (lit l.cells.down)) l.initial.points l.points

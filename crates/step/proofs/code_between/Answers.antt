@@ -1,36 +1,24 @@
--- `code_between` meets its contract: a refused place is refused by the same number, the first before the second, and a given place occurs.
--- Assumes nothing.
-use mathlib.Core.Path.{refl, ◌∙◌}
+-- `code_between` meets its contract: both cells are of the level. Assumes nothing.
+use mathlib.Core.Path.{◌≡◌, refl, sym, ◌∙◌}
 use Rattle.cell.specs.Cell.{place_of}
-use Rattle.cell.proofs.Answers.{Given, given_place}
-use Rattle.code.proofs.Calls.{refused_from, refused_to, given_code}
+use Rattle.cell.proofs.Answers.{Given, given_site}
+use Rattle.code.proofs.Calls.{given_code}
 use Rattle.step.proofs.code_between.Goals as goal
-use Rattle.step.proofs.code_between.Goals.{In-At, In-At-place_of}
+use Rattle.step.proofs.code_between.Goals.{In_ok-at-2}
 
--- where the first cell's place was given, that place is the cell's
-first : (c : In-At) → Given c.args.level c.args.from (place_of c.in-At.here)
-first c = given_place _ _ _ (rw c.in-At.is at c.place_of.ensures)
-
--- and the other, where it was given too, the second's
-second : (c : In-At-place_of) →
+-- where both sites were given, they are those of the cells
+known : (c : In_ok-at-2) →
     let a = c.args in
-    Given a.level a.to (place_of c.in-At-place_of.there)
-second c = given_place _ _ _ (rw c.in-At-place_of.is at c.place_of-in-At.ensures)
+    let from = c.in_ok-at.field-0 in
+    let to = c.in_ok-at-2.field-0 in
+    ((a.level ≡ from.level.k) × Given a.level a.from (place_of from.place)) × ((a.level ≡ to.level.k) × Given a.level a.to (place_of to.place))
+known c = (given_site _ _ _ _ c.in_ok-at.ensures, given_site _ _ _ _ c.in_ok-at-2.ensures)
 
 pub find_code-requires : goal.find_code-requires
-find_code-requires c = let f = first (goal.at.find_code-requires c).In-At in (f.level, f.occurs, (second c).occurs)
+find_code-requires c = let g = known c in sym g.1.0 ∙ g.0.0
 
-pub returns-in-Refused : goal.returns-in-Refused
-returns-in-Refused c =
+pub returns : goal.returns
+returns c =
     let a = c.args in
-    refused_from a.level a.from a.to _ (rw c.in-Refused.is at c.place_of.ensures)
-
-pub returns-in-Refused-place_of : goal.returns-in-Refused-place_of
-returns-in-Refused-place_of c =
-    let a = c.args in
-    refused_to a.level a.from a.to _ _ (first (goal.at.returns-in-Refused-place_of c).In-At) (rw c.in-Refused-place_of.is at c.place_of-in-At.ensures)
-
-pub returns-in-At-place_of : goal.returns-in-At-place_of
-returns-in-At-place_of c =
-    let a = c.args in
-    c.find_code.ensures ∙ given_code a.level a.from a.to _ _ _ (first (goal.at.returns-in-At-place_of c).In-At) (second (goal.at.returns-in-At-place_of c).In-At-place_of) refl
+    let g = known (goal.at.returns c).In_ok-at-2 in
+    c.find_code.ensures ∙ rw (← g.0.0) (given_code a.level a.from a.to _ _ _ g.0.1 g.1.1 refl)

@@ -2,60 +2,65 @@
 -- octant.
 -- Assumes nothing.
 use Prim.Native.Nat.{◌+◌, ◌≤◌, ◌^◌}
-use mathlib.Core.Path.{sym}
+use mathlib.Core.Logic.{inl, inr}
 use native.Mathlib.Omega.{arith}
 use borrow.Author.Tests.{le-leb}
 use Rattle.cell.specs.Cell.{span, down, max_level}
 use Rattle.code.specs.Step.{step, steps}
-use Rattle.step.proofs.Body.{rows_bound, inside_less, inside_test, down_stays}
+use Rattle.step.proofs.Body.{rows_bound, inside_less, inside_test}
 use Rattle.step.proofs.from_down.Goals as goal
 use Rattle.step.proofs.from_down.Goals.{Start}
 
 -- row and column end inside the octant, and so far below what a number holds
-room : (c : Start) → (c.args.row + c.args.col + 2 ≤ 2 ^ c.args.level) × (2 ^ c.args.level ≤ 2 ^ max_level)
+room : (c : Start) → (c.args.from.place.row + c.args.from.place.col + 2 ≤ 2 ^ c.args.from.level.k) × (2 ^ c.args.from.level.k ≤ 2 ^ max_level)
 unfolding span
-room c = (c.requires.1.1, rows_bound c.args.level c.requires.0)
+room c = (rw c.requires at c.args.from.occurs.1, rows_bound c.args.from.level.k c.args.from.level.bounded)
 
-pub returns-in-0 : goal.returns-in-0
+pub returns-in-Top : goal.returns-in-Top
 unfolding step steps span
-returns-in-0 c =
-    let a = c.args in
-    let t = le-leb (a.row + 1 + a.col + 1) (2 ^ a.level) (omega (arith, room (goal.at.returns-in-0 c).Start)) in
-    rw (c.in-0.is, t) c.found_if.ensures
+returns-in-Top c =
+    let k = c.args.from.level.k in
+    let a = c.args.from.place in
+    let t = le-leb (a.row + 1 + a.col + 1) (2 ^ k) (omega (arith, room (goal.at.returns-in-Top c).Start)) in
+    rw (c.requires, c.in-Top.is, t) c.found_if.ensures
 
-pub returns-in-1 : goal.returns-in-1
+pub returns-in-Left : goal.returns-in-Left
 unfolding step steps span
-returns-in-1 c =
-    let a = c.args in
-    let t = le-leb (a.row + a.col + 1) (2 ^ a.level) (omega (arith, room (goal.at.returns-in-1 c).Start)) in
-    rw (c.in-1.is, t) c.found_if-in-1.ensures
+returns-in-Left c =
+    let k = c.args.from.level.k in
+    let a = c.args.from.place in
+    let t = le-leb (a.row + a.col + 1) (2 ^ k) (omega (arith, room (goal.at.returns-in-Left c).Start)) in
+    rw (c.requires, c.in-Left.is, t) c.found_if-in-Left.ensures
 
-pub returns-in-2 : goal.returns-in-2
+pub returns-in-Right : goal.returns-in-Right
 unfolding step steps span
-returns-in-2 c =
-    let a = c.args in
-    let t = le-leb (a.row + (a.col + 1) + 1) (2 ^ a.level) (omega (arith, room (goal.at.returns-in-2 c).Start)) in
-    rw (c.in-2.is, t) c.found_if-in-2.ensures
+returns-in-Right c =
+    let k = c.args.from.level.k in
+    let a = c.args.from.place in
+    let t = le-leb (a.row + (a.col + 1) + 1) (2 ^ k) (omega (arith, room (goal.at.returns-in-Right c).Start)) in
+    rw (c.requires, c.in-Right.is, t) c.found_if-in-Right.ensures
 
-pub returns-in-3 : goal.returns-in-3
+pub returns-in-East : goal.returns-in-East
 unfolding step steps span
-returns-in-3 c =
-    let a = c.args in
-    let t = inside_test a.level (a.row + a.col + 2) (a.row + (a.col + 1) + 2) c.requires.0 (omega arith) in
-    rw (c.in-3.is, t) c.found_if-in-3.ensures
+returns-in-East c =
+    let k = c.args.from.level.k in
+    let a = c.args.from.place in
+    let t = inside_test k (a.row + a.col + 2) (a.row + (a.col + 1) + 2) c.args.from.level.bounded (omega arith) in
+    rw (c.requires, c.in-East.is, t) c.found_if-in-East.ensures
 
-pub returns-in-4 : goal.returns-in-4
+pub returns-in-West : goal.returns-in-West
 unfolding step steps span
-returns-in-4 c =
-    let a = c.args in
-    let i = inside_less a.level a.octant a.col (λ n. down a.row n) (λ m e. omega (arith, room (goal.at.returns-in-4 c).Start)) in
-    rw (c.in-4.is, i, ← c.one_less.ensures) c.found_if-in-4.ensures
+returns-in-West c =
+    let k = c.args.from.level.k in
+    let a = c.args.from.place in
+    let i = inside_less k a.octant a.col (λ n. down a.row n) (λ m e. omega (arith, room (goal.at.returns-in-West c).Start)) in
+    rw (c.requires, c.in-West.is, i, ← c.saturating_sub.ensures) c.found_if-in-West.ensures
 
 pub overflow_add-end : goal.overflow_add-end
-overflow_add-end c = omega (arith, room c)
+overflow_add-end c = omega (arith, room (goal.at.overflow_add-end c).Start)
 
 pub overflow_add-end-2 : goal.overflow_add-end-2
-overflow_add-end-2 c = omega (arith, room c)
+overflow_add-end-2 c = omega (arith, room (goal.at.overflow_add-end-2 c).Start)
 
 pub overflow_add-row : goal.overflow_add-row
 overflow_add-row c = omega (arith, room (goal.at.overflow_add-row c).Start)
@@ -63,10 +68,9 @@ overflow_add-row c = omega (arith, room (goal.at.overflow_add-row c).Start)
 pub overflow_add-col : goal.overflow_add-col
 overflow_add-col c = omega (arith, room (goal.at.overflow_add-col c).Start)
 
-pub overflow_add-col-in-3 : goal.overflow_add-col-in-3
-overflow_add-col-in-3 c = omega (arith, room (goal.at.overflow_add-col-in-3 c).Start)
+pub overflow_add-col-in-East : goal.overflow_add-col-in-East
+overflow_add-col-in-East c = omega (arith, room (goal.at.overflow_add-col-in-East c).Start)
 
-pub returns-in_default : goal.returns-in_default
-returns-in_default c =
-    let a = c.args in
-    sym (down_stays a.level a.octant a.row a.col a.code (omega arith))
+pub returns-in-OverEquator : goal.returns-in-OverEquator
+unfolding step steps
+returns-in-OverEquator c = elim c.in-OverEquator.is [ inl e ↦ simp (e, c.requires) | inr (inl e) ↦ simp (e, c.requires) | inr (inr e) ↦ simp (e, c.requires) ]

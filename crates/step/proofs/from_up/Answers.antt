@@ -2,83 +2,78 @@
 -- always inside the octant, and one more is where the test says so.
 -- Assumes nothing.
 use Prim.Native.Nat.{◌+◌, ◌≤◌, ◌^◌}
-use mathlib.Core.Path.{sym}
 use native.Mathlib.Omega.{arith}
 use Rattle.cell.specs.Cell.{span, up, down, max_level}
 use Rattle.code.specs.Step.{across, east, west, step, steps}
-use Rattle.code.proofs.Laws.{past_seven}
 use Rattle.step.proofs.Body.{rows_shifted, rows_bound, inside_less, inside_test}
 use Rattle.step.proofs.from_up.Goals as goal
 use Rattle.step.proofs.from_up.Goals.{Start}
 
 -- row and column end inside the octant, and so far below what a number holds
-room : (c : Start) → (c.args.row + c.args.col + 1 ≤ 2 ^ c.args.level) × (2 ^ c.args.level ≤ 2 ^ max_level)
+room : (c : Start) → (c.args.from.place.row + c.args.from.place.col + 1 ≤ 2 ^ c.args.from.level.k) × (2 ^ c.args.from.level.k ≤ 2 ^ max_level)
 unfolding span
-room c = (c.requires.1.1, rows_bound c.args.level c.requires.0)
+room c = (rw c.requires at c.args.from.occurs.1, rows_bound c.args.from.level.k c.args.from.level.bounded)
 
-pub overflow_sub-rows : goal.overflow_sub-rows
-overflow_sub-rows c = rw (rows_shifted c.args.level c.requires.0) (omega (arith, room (goal.at.overflow_sub-rows c).Start))
+pub overflow_sub-rows-in-OverWest : goal.overflow_sub-rows-in-OverWest
+overflow_sub-rows-in-OverWest c = rw (rows_shifted c.args.from.level.k c.args.from.level.bounded) (omega (arith, room (goal.at.overflow_sub-rows-in-OverWest c).Start))
 
-pub overflow_sub-rows-in-7 : goal.overflow_sub-rows-in-7
-overflow_sub-rows-in-7 c = rw (rows_shifted c.args.level c.requires.0) (omega (arith, room (goal.at.overflow_sub-rows-in-7 c).Start))
-
-pub returns-in-0 : goal.returns-in-0
+pub returns-in-Top : goal.returns-in-Top
 unfolding step steps span
-returns-in-0 c =
-    let a = c.args in
-    let i = inside_less a.level a.octant a.row (λ n. down n a.col) (λ m e. omega (arith, room (goal.at.returns-in-0 c).Start)) in
-    rw (c.in-0.is, i, ← c.one_less.ensures) c.found_if.ensures
+returns-in-Top c =
+    let k = c.args.from.level.k in
+    let a = c.args.from.place in
+    let i = inside_less k a.octant a.row (λ n. down n a.col) (λ m e. omega (arith, room (goal.at.returns-in-Top c).Start)) in
+    rw (c.requires, c.in-Top.is, i, ← c.saturating_sub.ensures) c.found_if.ensures
 
-pub returns-in-1 : goal.returns-in-1
+pub returns-in-Left : goal.returns-in-Left
 unfolding step steps span
-returns-in-1 c =
-    let a = c.args in
-    let i = inside_less a.level a.octant a.col (λ n. down a.row n) (λ m e. omega (arith, room (goal.at.returns-in-1 c).Start)) in
-    rw (c.in-1.is, i, ← c.one_less-in-1.ensures) c.found_if-in-1.ensures
+returns-in-Left c =
+    let k = c.args.from.level.k in
+    let a = c.args.from.place in
+    let i = inside_less k a.octant a.col (λ n. down a.row n) (λ m e. omega (arith, room (goal.at.returns-in-Left c).Start)) in
+    rw (c.requires, c.in-Left.is, i, ← c.saturating_sub-in-Left.ensures) c.found_if-in-Left.ensures
 
-pub returns-in-2 : goal.returns-in-2
+pub returns-in-Right : goal.returns-in-Right
 unfolding step steps span
-returns-in-2 c =
-    let a = c.args in
-    let t = inside_test a.level (a.row + a.col + 1) (a.row + a.col + 2) c.requires.0 (omega arith) in
-    rw (c.in-2.is, t) c.found_if-in-2.ensures
+returns-in-Right c =
+    let k = c.args.from.level.k in
+    let a = c.args.from.place in
+    let t = inside_test k (a.row + a.col + 1) (a.row + a.col + 2) c.args.from.level.bounded (omega arith) in
+    rw (c.requires, c.in-Right.is, t) c.found_if-in-Right.ensures
 
-pub returns-in-3 : goal.returns-in-3
+pub returns-in-East : goal.returns-in-East
 unfolding step steps span
-returns-in-3 c =
-    let a = c.args in
-    let t = inside_test a.level (a.row + a.col + 1) (a.row + (a.col + 1) + 1) c.requires.0 (omega arith) in
-    rw (c.in-3.is, t) c.found_if-in-3.ensures
+returns-in-East c =
+    let k = c.args.from.level.k in
+    let a = c.args.from.place in
+    let t = inside_test k (a.row + a.col + 1) (a.row + (a.col + 1) + 1) c.args.from.level.bounded (omega arith) in
+    rw (c.requires, c.in-East.is, t) c.found_if-in-East.ensures
 
-pub returns-in-4 : goal.returns-in-4
+pub returns-in-West : goal.returns-in-West
 unfolding step steps span
-returns-in-4 c =
-    let a = c.args in
-    let i = inside_less a.level a.octant a.col (λ n. up a.row n) (λ m e. omega (arith, room (goal.at.returns-in-4 c).Start)) in
-    rw (c.in-4.is, i, ← c.one_less-in-4.ensures) c.found_if-in-4.ensures
+returns-in-West c =
+    let k = c.args.from.level.k in
+    let a = c.args.from.place in
+    let i = inside_less k a.octant a.col (λ n. up a.row n) (λ m e. omega (arith, room (goal.at.returns-in-West c).Start)) in
+    rw (c.requires, c.in-West.is, i, ← c.saturating_sub-in-West.ensures) c.found_if-in-West.ensures
 
-pub returns-in-5 : goal.returns-in-5
+pub returns-in-OverEquator : goal.returns-in-OverEquator
 unfolding step steps across
-returns-in-5 c = rw c.in-5.is c.found_if-in-5.ensures
+returns-in-OverEquator c = simp (c.in-OverEquator.is, c.requires) c.found_if-in-OverEquator.ensures
 
-pub returns-in-6 : goal.returns-in-6
+pub returns-in-OverEast : goal.returns-in-OverEast
 unfolding step steps east
-returns-in-6 c = rw (c.in-6.is, ← (rows_shifted c.args.level c.requires.0)) c.found_if-in-6.ensures
+returns-in-OverEast c = rw (c.requires, c.in-OverEast.is, ← (rows_shifted c.args.from.level.k c.args.from.level.bounded)) c.found_if-in-OverEast.ensures
 
-pub returns-in-7 : goal.returns-in-7
+pub returns-in-OverWest : goal.returns-in-OverWest
 unfolding step steps west
-returns-in-7 c = rw (c.in-7.is, ← (rows_shifted c.args.level c.requires.0)) c.found_if-in-7.ensures
+returns-in-OverWest c = rw (c.requires, c.in-OverWest.is, ← (rows_shifted c.args.from.level.k c.args.from.level.bounded)) c.found_if-in-OverWest.ensures
 
 pub overflow_add-end : goal.overflow_add-end
-overflow_add-end c = omega (arith, room c)
+overflow_add-end c = omega (arith, room (goal.at.overflow_add-end c).Start)
 
 pub overflow_add-end-2 : goal.overflow_add-end-2
-overflow_add-end-2 c = omega (arith, room c)
+overflow_add-end-2 c = omega (arith, room (goal.at.overflow_add-end-2 c).Start)
 
 pub overflow_add-col : goal.overflow_add-col
 overflow_add-col c = omega (arith, room (goal.at.overflow_add-col c).Start)
-
-pub returns-in_default : goal.returns-in_default
-returns-in_default c =
-    let a = c.args in
-    sym (past_seven a.level (a.octant, up a.row a.col) a.code (omega arith))

@@ -2,11 +2,12 @@
 use Prim.Native.Nat.{◌^◌, ◌<◌}
 use mathlib.Core.Path.{sym, ◌∙◌}
 use native.Mathlib.Omega.{arith}
+use borrow.Author.Tests.{eqb-true, eqb-false}
 use Rattle.border.specs.Stored.{value_of, code_bytes}
 use Rattle.border.proofs.Digits.{value_below}
 use Rattle.border_reader.proofs.Bits.{not_padded, padded}
 use Rattle.border_reader.proofs.codes.is_padded.Goals as goal
-use Rattle.border_reader.proofs.codes.is_padded.Goals.{After-code_at}
+use Rattle.border_reader.proofs.codes.is_padded.Goals.{After-code_at, then-code_at-eq0, else-code_at-eq0}
 
 -- the number that the bytes say
 said : (c : After-code_at) → value_of 256 c.args.bytes.now < 256 ^ code_bytes c.args.count
@@ -14,13 +15,19 @@ said c =
     let bs = c.args.bytes.now in
     rw c.requires.1 at (value_below 256 bs (λ i. omega (arith, c.type_inv.bytes i)))
 
-pub returns-then-code_at-ne0 : goal.returns-then-code_at-ne0
-returns-then-code_at-ne0 c = sym (not_padded _ _ _ (omega arith) (λ z. c.if-code_at-ne0.true (c.code_at.ensures ∙ z)))
+pub returns-then-code_at-eq0-2 : goal.returns-then-code_at-eq0-2
+returns-then-code_at-eq0-2 c = elim c.if-code_at-eq0.branch [
+  | then-code_at-eq0 w ↦
+      padded _ _ _ (said (goal.at.returns-then-code_at-eq0-2 c).After-code_at) (sym c.code_at.ensures ∙ w.if-code_at-eq0.true)
+      (sym w.code_at-then-code_at-eq0.ensures ∙ eqb-true _ 0 (sym w.value-is ∙ c.if-code_at-eq0-2.true)) c.code_at-then-code_at-eq0-2.ensures
+  | else-code_at-eq0 w ↦ absurd (w.if-code_at-eq0.false (eqb-true _ 0 (sym w.value-is ∙ c.if-code_at-eq0-2.true)))
+]
 
-pub returns-then-code_at-ne0-2 : goal.returns-then-code_at-ne0-2
-returns-then-code_at-ne0-2 c = sym (not_padded _ _ _ (omega arith) (λ z. c.if-code_at-ne0-2.true (c.code_at-2.ensures ∙ z)))
-
-pub returns : goal.returns
-returns c =
-    padded _ _ _ (said (goal.at.returns c).After-code_at) (sym c.code_at.ensures ∙ c.if-code_at-ne0.false)
-    (sym c.code_at-2.ensures ∙ c.if-code_at-ne0-2.false) c.code_at-3.ensures
+pub returns-else-code_at-eq0-2 : goal.returns-else-code_at-eq0-2
+returns-else-code_at-eq0-2 c = elim c.if-code_at-eq0.branch [
+  | then-code_at-eq0 w ↦
+      let differs = eqb-false _ 0 (sym w.value-is ∙ c.if-code_at-eq0-2.false) in
+      c.if-code_at-eq0-2.false ∙ sym (not_padded _ _ _ (omega arith) (λ z. differs (w.code_at-then-code_at-eq0.ensures ∙ z)))
+  | else-code_at-eq0 w ↦
+      c.if-code_at-eq0-2.false ∙ sym (not_padded _ _ _ (omega arith) (λ z. w.if-code_at-eq0.false (c.code_at.ensures ∙ z)))
+]

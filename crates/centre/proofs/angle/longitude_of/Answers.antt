@@ -25,5 +25,5 @@ fits c = let a = c.args in inside_fits (beginning a.octant +ℤ pos a.m) (beginn
 pub returns : goal.returns
 returns c = ap (λ (z : ℤ). to_z w32 (of_z w32 z)) (sum c) ∙ same_number (beginning c.args.octant +ℤ pos c.args.m) (fits c)
 
-pub overflow_add-x : goal.overflow_add-x
-overflow_add-x c = rw (sum c) (record { sfits = fits c })
+pub overflow_add-result : goal.overflow_add-result
+overflow_add-result c = rw (sum c) (record { sfits = fits c })

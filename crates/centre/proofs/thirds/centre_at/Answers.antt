@@ -1,22 +1,48 @@
--- `centre_at` meets its contract: s is 1 for up and 2 for down, and a triangle's span is a + b + s. Assumes nothing.
-use mathlib.Core.Path.{◌∙◌}
+-- `centre_at` meets its contract: p and m are those of the place's row and column, and both are below q. Assumes nothing.
 use native.Mathlib.Omega.{arith}
-use Rattle.cell.specs.Cell.{row, col, span}
-use Rattle.centre.specs.Centre.{thirds, centre, centre_p, centre_m}
+use Rattle.centre.specs.Centre.{centre}
+use Rattle.centre.proofs.Laws.{middle, place_parts}
 use Rattle.centre.proofs.thirds.centre_at.Goals as goal
 
-pub centre_by-requires : goal.centre_by-requires
-unfolding span
-centre_by-requires c = let h = rw c.in-Up.is at c.requires.1.1 in omega arith
+pub centre_p-p-requires : goal.centre_p-p-requires
+centre_p-p-requires c =
+    let p = c.args.site.place in
+    let known = middle c.args.site.level.k p _ (c.thirds_of-s.ensures p.row p.col) (c.args.site.level.bounded, c.args.site.occurs) in
+    omega arith
 
-pub centre_by-requires-in-Down : goal.centre_by-requires-in-Down
-unfolding span
-centre_by-requires-in-Down c = let h = rw c.in-Down.is at c.requires.1.1 in omega arith
+pub overflow_add-place : goal.overflow_add-place
+overflow_add-place c =
+    let p = c.args.site.place in
+    let known = middle c.args.site.level.k p _ (c.thirds_of-s.ensures p.row p.col) (c.args.site.level.bounded, c.args.site.occurs) in
+    omega arith
 
-pub returns-in-Up : goal.returns-in-Up
-unfolding row col thirds centre centre_p centre_m
-returns-in-Up c = c.centre_by.ensures ∙ rw c.in-Up.is
+pub overflow_sub-p : goal.overflow_sub-p
+overflow_sub-p c =
+    let p = c.args.site.place in
+    let known = middle c.args.site.level.k p _ (c.thirds_of-s.ensures p.row p.col) (c.args.site.level.bounded, c.args.site.occurs) in
+    omega arith
 
-pub returns-in-Down : goal.returns-in-Down
-unfolding row col thirds centre centre_p centre_m
-returns-in-Down c = c.centre_by-in-Down.ensures ∙ rw c.in-Down.is
+pub centre_m-m-requires : goal.centre_m-m-requires
+centre_m-m-requires c =
+    let p = c.args.site.place in
+    let known = middle c.args.site.level.k p _ (c.thirds_of-s.ensures p.row p.col) (c.args.site.level.bounded, c.args.site.occurs) in
+    omega arith
+
+pub latitude_of-requires : goal.latitude_of-requires
+latitude_of-requires c =
+    let p = c.args.site.place in
+    let known = middle c.args.site.level.k p _ (c.thirds_of-s.ensures p.row p.col) (c.args.site.level.bounded, c.args.site.occurs) in
+    rw c.centre_p-p.ensures known.low
+
+pub longitude_of-requires : goal.longitude_of-requires
+longitude_of-requires c =
+    let p = c.args.site.place in
+    let known = middle c.args.site.level.k p _ (c.thirds_of-s.ensures p.row p.col) (c.args.site.level.bounded, c.args.site.occurs) in
+    rw (c.centre_m-m.ensures, c.centre_p-p.ensures) known.east
+
+pub returns : goal.returns
+unfolding centre
+returns c =
+    let p = c.args.site.place in
+    let parts = place_parts c.args.site.level.k p.kind p.row p.col _ (c.thirds_of-s.ensures p.row p.col) in
+    rw (c.latitude_of.ensures, c.longitude_of.ensures, c.centre_m-m.ensures, c.centre_p-p.ensures, parts.0, parts.1)

@@ -10,37 +10,34 @@ use Rattle.cell.proofs.Laws.{shifted}
 use Rattle.corner.specs.Corner.{minus, polar, point_in, corner}
 use Rattle.corner.proofs.Signed.{held, held_first}
 use Rattle.corner.proofs.Common.{three}
-use Rattle.corner.proofs.Octants.{second_first}
+use Rattle.corner.proofs.Octants.{second_first, first_below}
 use Rattle.corner.proofs.corners.corner_of.Goals as goal
 use Rattle.corner.proofs.corners.corner_of.Goals.{Start}
 
 -- N as the code shifts it, and its bound
-rows : (c : Start) → (1 * 2 ^ c.args.level % 2 ^ 32 ≡ 2 ^ c.args.level) × (2 ^ c.args.level ≤ 2 ^ max_level)
-rows c = (shifted 32 c.args.level (omega (arith, c.requires.0)), pow_mono {i = c.args.level} {j = max_level} c.requires.0)
+rows : (c : Start) → (1 * 2 ^ c.args.level.k % 2 ^ 32 ≡ 2 ^ c.args.level.k) × (2 ^ c.args.level.k ≤ 2 ^ max_level)
+rows c = (shifted 32 c.args.level.k (omega (arith, c.args.level.bounded)), pow_mono {i = c.args.level.k} {j = max_level} c.args.level.bounded)
 
 pub signed-requires : goal.signed-requires
-signed-requires c = omega (arith, rows (goal.at.signed-requires c).Start)
+signed-requires c =
+    let a = c.args in
+    let n = rows (goal.at.signed-requires c).Start in
+    rw (c.first_of.ensures, n.0) (first_below a.octant (2 ^ a.level.k - a.t - a.r) a.r (2 ^ 31) (omega arith) (omega arith))
+
+pub signed-requires-2 : goal.signed-requires-2
+signed-requires-2 c =
+    let a = c.args in
+    let n = rows (goal.at.signed-requires-2 c).Start in
+    rw (c.first_of-2.ensures, n.0) (first_below (a.octant + 3) (2 ^ a.level.k - a.t - a.r) a.r (2 ^ 31) (omega arith) (omega arith))
 
 pub returns : goal.returns
 unfolding corner point_in polar
 returns c =
     let a = c.args in
     let n = rows (goal.at.returns c).Start in
-    let l = 2 ^ a.level - a.t - a.r in
+    let l = 2 ^ a.level.k - a.t - a.r in
     three
-    (held_first a.octant l a.r (omega arith) (omega arith) _ (rw n.0 at c.first_number.ensures))
-    (held_first (a.octant + 3) l a.r (omega arith) (omega arith) _ (rw n.0 at c.first_number-2.ensures)
+    (held_first a.octant l a.r (omega arith) (omega arith) _ (rw n.0 at c.first_of.ensures) _ c.signed.ensures)
+    (held_first (a.octant + 3) l a.r (omega arith) (omega arith) _ (rw n.0 at c.first_of-2.ensures) _ c.signed-2.ensures
     ∙ second_first pos minus l a.r a.octant)
-    (held (leb 4 a.octant) a.t (omega arith) _ c.signed.ensures)
-
-pub overflow_sub-l : goal.overflow_sub-l
-overflow_sub-l c = omega (arith, rows c)
-
-pub overflow_sub-l-2 : goal.overflow_sub-l-2
-overflow_sub-l-2 c = omega (arith, rows c)
-
-pub first_number-requires : goal.first_number-requires
-first_number-requires c = omega (arith, rows c)
-
-pub first_number-requires-2 : goal.first_number-requires-2
-first_number-requires-2 c = omega (arith, rows (goal.at.first_number-requires-2 c).Start)
+    (held (leb 4 a.octant) a.t (omega arith) _ c.signed-3.ensures)

@@ -7,6 +7,6 @@ pub returns : goal.returns
 returns c =
     let a = c.args in
     let h = c.requires in
-    let n = c.mark.auto.mask ∙ c.clear.auto.mask ∙ h.1 in
-    let m = one_marks a.level a.cell a.out.now _ _ h.2 h.1 c.clear.ensures c.mark.ensures in
-    in_rows_lem a.level _ _ a.up.now a.down.now _ _ h.0 n (λ i l. m i) c.to_rows.ensures.ups c.to_rows.ensures.downs
+    let n = c.mark.auto.mask ∙ c.clear.auto.mask ∙ h.0 in
+    let m = one_marks a.level.k a.cell a.out.now _ _ h.1 h.0 c.clear.ensures c.mark.ensures in
+    in_rows_lem a.level.k _ _ a.rows.now.up a.rows.now.down _ _ a.level.bounded n (λ i l. m i) c.to_rows.ensures.ups c.to_rows.ensures.downs

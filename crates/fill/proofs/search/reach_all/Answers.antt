@@ -9,7 +9,7 @@ pub returns : goal.returns
 returns c =
     let a = c.args in
     let h = c.requires in
-    let n = c.one_cell.auto.out ∙ c.open_cells.auto.out ∙ h.2 in
+    let n = c.one_cell.auto.out ∙ c.open_cells.auto.out ∙ h.1 in
     c.from_rows.ensures
-    ∙ rw (is_mask_lem a.level _ h.0 n)
-    (reached_rows a.level a.outside (marked a.border.now) h.0 h.3 _ _ _ _ _ _ c.open_cells.ensures c.one_cell.ensures c.flood.ensures)
+    ∙ rw (is_mask_lem a.level.k _ a.level.bounded n)
+    (reached_rows a.level.k a.outside (marked a.border.now) a.level.bounded h.2 _ _ _ _ _ _ c.open_cells.ensures c.one_cell.ensures c.flood.ensures)

@@ -1,4 +1,4 @@
--- `reach_over` meets its contract. The invariant: the edges of the octants before this one are passed. The measure is those left. Assumes nothing.
+-- `reach_over` meets its contract. The invariant: the edges of the octants before this one are passed. Assumes nothing.
 use Prim.Native.Nat.{ℕ, ◌^◌}
 use mathlib.Core.Path.{◌≡◌, subst}
 use native.Mathlib.Omega.{arith}
@@ -10,20 +10,20 @@ use Rattle.flood.proofs.edges.reach_over.Goals as goal
 pub loop-octant-init : goal.loop-octant-init
 loop-octant-init c =
     let a = c.args in
-    (omega arith, λ od d. turn_start (λ o. EdgesOf a.level o (2 ^ a.level)) a.open_up.now od a.up.now d)
+    λ od d. turn_start (λ o. EdgesOf a.level.k o (2 ^ a.level.k)) a.open_up.now od a.up.now d
 
 pub reach_octant-changed-requires : goal.reach_octant-changed-requires
-reach_octant-changed-requires c = (c.requires, omega arith)
+reach_octant-changed-requires c = omega arith
 
 pub loop-octant-preserved : goal.loop-octant-preserved
 loop-octant-preserved c =
     let l = c.loop-octant in
-    let k = c.args.level in
-    (omega arith, λ od d. turn_next (λ o. EdgesOf k o (2 ^ k)) l.octant (l.invariant.1 od d) (c.reach_octant-changed.ensures od d))
+    let k = c.args.level.k in
+    λ od d. turn_next (λ o. EdgesOf k o (2 ^ k)) l.octant (l.invariant od d) (c.reach_octant-changed.ensures od d)
 
 pub returns : goal.returns
 returns c od d =
     let l = c.loop-octant in
     let a = c.args in
     let all : l.octant ≡ 8 = omega arith in
-    subst (λ (m : ℕ). Turn (Over a.level m) a.open_up.now od a.up.now d l.up d l.changed) all (l.invariant.1 od d)
+    subst (λ (m : ℕ). Turn (Over a.level.k m) a.open_up.now od a.up.now d l.up d l.changed) all (l.invariant od d)

@@ -1,4 +1,4 @@
--- `go_forward` meets its contract. The invariant: the words before `at` are gone over. The measure is the words left. Assumes nothing.
+-- `go_forward` meets its contract. The invariant: the words before `at` are gone over. Assumes nothing.
 use mathlib.Core.Path.{◌≡◌}
 use native.Mathlib.Omega.{arith}
 use Rattle.rows.specs.Rows.{cells_end}
@@ -7,15 +7,15 @@ use Rattle.flood.proofs.Joining.{turn_words}
 use Rattle.flood.proofs.words.go_forward.Goals as goal
 
 pub loop-at-init : goal.loop-at-init
-loop-at-init c = (omega arith, omega arith, turn_none (λ s t i j m l o. absurd (omega (arith, m.1, m.2))))
+loop-at-init c = turn_none (λ s t i j m l o. absurd (omega (arith, m.1, m.2)))
 
 pub loop-at-preserved : goal.loop-at-preserved
 loop-at-preserved c =
     let l = c.loop-at in
-    (omega arith, omega arith, turn_words l.invariant.0 l.invariant.2 c.settle_word-changed.ensures)
+    turn_words (omega arith) l.invariant c.settle_word-changed.ensures
 
 pub returns : goal.returns
 returns c =
     let l = c.loop-at in
     let e : l.at ≡ cells_end = omega arith in
-    rw e at l.invariant.2
+    rw e at l.invariant

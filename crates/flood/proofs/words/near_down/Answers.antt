@@ -10,6 +10,6 @@ unfolding near_down
 returns c =
     let a = c.args in
     let u = a.up.now in
-    let here = word_read u a.at c.word-here.ensures in
-    let back = word_back refl c.one_back.ensures here (word_read u (a.at + 1) c.word-2.ensures) in
-    word_or here (word_or (word_next refl (word_read u (a.at + 5) c.word.ensures)) back)
+    let here = word_read u a.at refl in
+    let back = word_back refl c.one_back.ensures here (word_read u (a.at + 1) refl) in
+    word_or here (word_or (word_next refl (word_read u (a.at + 5) refl)) back)

@@ -11,12 +11,12 @@ returns-then-is_marked c =
     let m = marked a.mask.now in
     let one = one_cell a.cell m (sym c.is_marked.ensures ∙ c.if-is_marked.true) in
     record {
-      ups = added_same Up a.level _ _ a.up.now _ (λ x h. one x) c.put_cell.ensures.ups;
-      downs = added_same Down a.level _ _ a.down.now _ (λ x h. one x) c.put_cell.ensures.downs;
+      ups = added_same Up a.level.k _ _ a.rows.now.up _ (λ x h. one x) c.put_cell.ensures.ups;
+      downs = added_same Down a.level.k _ _ a.rows.now.down _ (λ x h. one x) c.put_cell.ensures.downs;
     }
 
 pub returns-else-is_marked : goal.returns-else-is_marked
 returns-else-is_marked c =
     let a = c.args in
     let none = no_cell a.cell (marked a.mask.now) (sym c.is_marked.ensures ∙ c.if-is_marked.false) in
-    record { ups = added_none Up a.level _ a.up.now (λ x h. none x); downs = added_none Down a.level _ a.down.now (λ x h. none x) }
+    record { ups = added_none Up a.level.k _ a.rows.now.up (λ x h. none x); downs = added_none Down a.level.k _ a.rows.now.down (λ x h. none x) }

@@ -14,7 +14,7 @@ pub returns-then-is_cell_set : goal.returns-then-is_cell_set
 returns-then-is_cell_set c x =
     let a = c.args in
     let s = a.mask.now in
-    let one = one_cell a.cell (cell_lit a.level a.up.now a.down.now) (sym c.is_cell_set.ensures ∙ c.if-is_cell_set.true) in
+    let one = one_cell a.cell (cell_lit a.level.k a.rows.now.up a.rows.now.down) (sym c.is_cell_set.ensures ∙ c.if-is_cell_set.true) in
     ap (λ (l : List ℕ). marked l x) c.mark.ensures
     ∙ marked_marking s a.cell x (omega (arith, c.requires))
     ∙ ap (λ (b : Bool). marked s x || b) (one x)
@@ -22,5 +22,5 @@ returns-then-is_cell_set c x =
 pub returns-else-is_cell_set : goal.returns-else-is_cell_set
 returns-else-is_cell_set c x =
     let a = c.args in
-    let none = no_cell a.cell (cell_lit a.level a.up.now a.down.now) (sym c.is_cell_set.ensures ∙ c.if-is_cell_set.false) in
+    let none = no_cell a.cell (cell_lit a.level.k a.rows.now.up a.rows.now.down) (sym c.is_cell_set.ensures ∙ c.if-is_cell_set.false) in
     sym (ap (λ (b : Bool). marked a.mask.now x || b) (none x) ∙ or-false (marked a.mask.now x))

@@ -1,10 +1,7 @@
-use Prim.Native.Nat.{◌+◌, ◌*◌, ◌≤◌, ◌-◌}
+use Prim.Native.Nat.{◌+◌, ◌*◌}
 use Rattle.bitset.specs.Bits.{marked}
 use Rattle.raster.proofs.Joined.{Bits}
 use Rattle.raster.proofs.masks.word_at.Given as goal
 
 abbrev pub invariant-loop-i : goal.invariant-loop-i
-invariant-loop-i l = (l.i ≤ 8) × Bits l.i (λ p. marked l.mask (64 * l.block + p)) l.word
-
-abbrev pub decreases-loop-i : goal.decreases-loop-i
-decreases-loop-i l = 8 - l.i
+invariant-loop-i l = Bits l.i (λ p. marked l.mask (64 * l.block + p)) l.word

@@ -1,6 +1,6 @@
--- `join_square` meets its contract. The invariant: the first `x` rows are joined. The measure is the number of rows left. Assumes nothing.
+-- `join_square` meets its contract. The invariant: the first `x` rows are joined. Assumes nothing.
 use Prim.Native.Nat.{ℕ}
-use mathlib.Core.Path.{◌≡◌, refl, ap, ◌∙◌}
+use mathlib.Core.Path.{◌≡◌, ap, ◌∙◌}
 use mathlib.Core.Bool.{◌||◌}
 use native.Mathlib.Omega.{arith}
 use Rattle.rows.specs.Rows.{lit}
@@ -9,29 +9,17 @@ use Rattle.raster.proofs.Joined.{square_none, square_more}
 use Rattle.raster.proofs.words.join_square.Goals as goal
 
 pub loop-x-init : goal.loop-x-init
-loop-x-init c =
-    let a = c.args in
-    (omega arith, refl, square_none a.words.now a.slot a.square)
-
-pub join_byte-requires : goal.join_byte-requires
-join_byte-requires c = (omega (arith, c.requires.0), omega arith)
-
-pub shape_of-words : goal.shape_of-words
-shape_of-words c = c.loop-x.invariant.1
+loop-x-init c = let a = c.args in square_none a.words.now a.slot a.square
 
 pub returns : goal.returns
 returns c i =
     let a = c.args in
     let l = c.loop-x in
     let e : l.x ≡ 8 = omega arith in
-    l.invariant.2 i ∙ ap (λ (n : ℕ). lit a.words.now i || in_square n a.slot a.square i) e
+    l.invariant i ∙ ap (λ (n : ℕ). lit a.words.now i || in_square n a.slot a.square i) e
 
 pub loop-x-preserved : goal.loop-x-preserved
-loop-x-preserved c =
+loop-x-preserved c i =
     let a = c.args in
     let l = c.loop-x in
-    let j = c.join_byte in (
-      omega arith,
-      j.auto.words ∙ l.invariant.1,
-      λ i. square_more a.words.now l.words _ a.slot a.square l.x i (l.invariant.2 i) (j.ensures i),
-    )
+    square_more a.words.now l.words _ a.slot a.square l.x i (l.invariant i) (c.join_byte.ensures i)

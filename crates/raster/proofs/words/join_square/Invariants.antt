@@ -1,14 +1,9 @@
-use Prim.Native.Nat.{ℕ, ◌≤◌, ◌-◌}
+use Prim.Native.Nat.{ℕ}
 use mathlib.Core.Path.{◌≡◌}
 use mathlib.Core.Bool.{◌||◌}
-use lib.ListN.{length}
 use Rattle.rows.specs.Rows.{lit}
 use Rattle.raster.specs.inside.Squares.{in_square}
 use Rattle.raster.proofs.words.join_square.Given as goal
 
 abbrev pub invariant-loop-x : goal.invariant-loop-x
-invariant-loop-x l =
-    (l.x ≤ 8) × (length l.words ≡ length l.initial.words) × ((i : ℕ) → lit l.words i ≡ (lit l.initial.words i || in_square l.x l.slot l.square i))
-
-abbrev pub decreases-loop-x : goal.decreases-loop-x
-decreases-loop-x l = 8 - l.x
+invariant-loop-x l = (i : ℕ) → lit l.words i ≡ (lit l.initial.words i || in_square l.x l.slot l.square i)

@@ -1,4 +1,4 @@
--- `square_at` meets its contract. The invariant: the first `x` rows are read. The measure is the number of rows left. Assumes nothing.
+-- `square_at` meets its contract. The invariant: the first `x` rows are read. Assumes nothing.
 use Prim.Native.Nat.{ℕ, ◌+◌, ◌*◌, ◌/◌, ◌%◌, ◌<◌}
 use mathlib.Core.Path.{◌≡◌, ap, ◌∙◌}
 use mathlib.Core.Bool.{Bool}
@@ -9,13 +9,13 @@ use Rattle.raster.proofs.Joined.{bits_none, bits_more, bits_all}
 use Rattle.raster.proofs.words.square_at.Goals as goal
 
 pub loop-x-init : goal.loop-x-init
-loop-x-init c = let a = c.args in (omega arith, bits_none (λ p. lit a.words.now (8 * (a.slot + 40 * (p / 8)) + p % 8)))
+loop-x-init c = let a = c.args in bits_none (λ p. lit a.words.now (8 * (a.slot + 40 * (p / 8)) + p % 8))
 
 pub returns : goal.returns
 returns c =
     let a = c.args in
     let l = c.loop-x in
-    bits_all (λ p. lit a.words.now (8 * (a.slot + 40 * (p / 8)) + p % 8)) l.x l.square (omega arith) l.invariant.1
+    bits_all (λ p. lit a.words.now (8 * (a.slot + 40 * (p / 8)) + p % 8)) l.x l.square (omega arith) l.invariant
 
 pub loop-x-preserved : goal.loop-x-preserved
 loop-x-preserved c =
@@ -26,4 +26,4 @@ loop-x-preserved c =
     let at : (r : ℕ) → r < 8 → bit b.result r ≡ F (8 * l.x + r) = λ r h.
     let e : 8 * (a.slot + 40 * l.x) + r ≡ 8 * (a.slot + 40 * ((8 * l.x + r) / 8)) + (8 * l.x + r) % 8 = omega arith in
     b.ensures.bits r h ∙ ap (lit a.words.now) e in
-    (omega arith, bits_more F l.x l.square b.result (omega arith) b.ensures.small l.invariant.1 at)
+    bits_more F l.x l.square b.result (omega arith) b.ensures.small l.invariant at

@@ -15,10 +15,10 @@ returns-then-is_set c =
 pub returns-then-is_set-2 : goal.returns-then-is_set-2
 returns-then-is_set-2 c =
     let a = c.args in
-    second_lit a.first a.second (lit a.points.now) _ (sym c.is_set-2.ensures ∙ c.if-is_set-2.true)
+    second_lit a.first a.second (lit a.points.now) _ (sym c.is_set-else-is_set.ensures ∙ c.if-is_set-2.true)
     (λ i. c.set_bit-then-is_set-2.ensures i ∙ set_here (lit a.points.now i) i a.first (omega arith))
 
 pub returns-else-is_set-2 : goal.returns-else-is_set-2
 returns-else-is_set-2 c =
     let a = c.args in
-    none_lit a.first a.second (lit a.points.now) (sym c.is_set.ensures ∙ c.if-is_set.false) (sym c.is_set-2.ensures ∙ c.if-is_set-2.false)
+    none_lit a.first a.second (lit a.points.now) (sym c.is_set.ensures ∙ c.if-is_set.false) (sym c.is_set-else-is_set.ensures ∙ c.if-is_set-2.false)

@@ -11,8 +11,8 @@ pub returns : goal.returns
 unfolding points_of
 returns c =
     let a = c.args in
-    let s = a.up.now in
-    let t = a.down.now in
+    let s = a.cells.now.up in
+    let t = a.cells.now.down in
     let up_here = word_read s a.w c.word-up_here.ensures in
     let up-last = word_last {w = a.w} (omega arith) (word_read s (a.w - 5) c.word-up_last.ensures) in
     let up_on = word_on (omega arith) c.one_on-up_on.ensures up_here (word_read s (a.w - 1) c.word.ensures) in
