@@ -14,12 +14,12 @@ use lib.ListN.{length}
 use Rattle.refusal.proofs.Tests.{parts, both, clash}
 use Rattle.cell.specs.Cell.{place, number, cells}
 use Rattle.cell.proofs.Laws.{place_occurs, number_below, place_number, number_place}
-use Rattle.corner.specs.Corner.{norm, minus, corners, among}
+use Rattle.corner.specs.Corner.{norm, minus, corners, among, side_of}
 use Rattle.corner.proofs.Common.{three, among_index, index_among, same_point_refl, same_coordinates}
-use Rattle.adjacency.specs.declared.Side.{Side}
+use Rattle.corner.specs.declared.Side.{Side}
 use Rattle.adjacency.specs.declared.Cube.{Cube}
 use Rattle.adjacency.specs.Touch.{Tip, cells_at}
-use Rattle.adjacency.specs.Cube.{side_of, sum, cube_of, place_of_cube}
+use Rattle.adjacency.specs.Cube.{sum, cube_of, place_of_cube}
 use Rattle.adjacency.proofs.Sides.{end, size_end}
 use Rattle.adjacency.proofs.Cubes.{room, room_small, sum_cube, place_cube, Spanned, cube_occurs, cube_place}
 use Rattle.adjacency.proofs.Vertices.{vertex, IsVertex, corner_vertex, vertex-corner}

@@ -5,7 +5,8 @@ use mathlib.Core.Bool.{Bool, cond}
 use native.Mathlib.Nat.{le_trans, le_of_eq, le-add_right, add-zero, add-suc}
 use native.Mathlib.Omega.{arith}
 use Rattle.adjacency.specs.declared.Cube.{Cube}
-use Rattle.adjacency.specs.Cube.{side_of, least, most, taken, sums_fit, touching_way}
+use Rattle.corner.specs.Corner.{side_of}
+use Rattle.adjacency.specs.Cube.{least, most, taken, sums_fit, touching_way}
 
 -- how many numbers below n pass a test
 unfoldable pub passes : (ℕ → Bool) → ℕ → ℕ

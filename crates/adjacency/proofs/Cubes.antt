@@ -8,11 +8,11 @@ use lib.Dec.{leb, eqb}
 use Rattle.cell.specs.declared.Kind.{Kind}
 use Rattle.cell.specs.declared.Kind.TheVariants.{Up, Down}
 use Rattle.cell.specs.Cell.{Triangle, up, down, span, Place, Occurs, triangle_of, row, col}
-use Rattle.corner.specs.Corner.{equatorial}
+use Rattle.corner.specs.Corner.{equatorial, side_of}
 use Rattle.corner.proofs.Octants.{octant-cases}
-use Rattle.adjacency.specs.declared.Side.{Side}
+use Rattle.corner.specs.declared.Side.{Side}
 use Rattle.adjacency.specs.declared.Cube.{Cube}
-use Rattle.adjacency.specs.Cube.{side_of, sum, left_over, cube_of, northern_octant, column, place_in, place_of_cube, equatorial_sides}
+use Rattle.adjacency.specs.Cube.{sum, left_over, cube_of, northern_octant, column, place_in, place_of_cube, equatorial_sides}
 
 -- N less the bases: 1 for up, 2 for down
 unfoldable pub room : Triangle → ℕ

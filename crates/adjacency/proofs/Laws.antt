@@ -12,11 +12,11 @@ use lib.ListN.{get_or, length}
 use lib.Pow.{pow_mono}
 use Rattle.cell.specs.Cell.{Triangle, up, down, span, Place, triangle, place, Occurs, row, col, cells}
 use Rattle.cell.proofs.Laws.{place_occurs}
-use Rattle.corner.specs.Corner.{Point, norm, corners, coordinate}
+use Rattle.corner.specs.Corner.{Point, norm, corners, coordinate, side_of}
 use Rattle.corner.proofs.Octants.{octant-cases}
-use Rattle.adjacency.specs.declared.Side.{Side}
+use Rattle.corner.specs.declared.Side.{Side}
 use Rattle.adjacency.specs.Touch.{Tip, CornerCell, touching, cells_at}
-use Rattle.adjacency.specs.Cube.{sum, left_over, cube_of, place_of_cube, moved, least, most, touching_way, equatorial_sides, side_of}
+use Rattle.adjacency.specs.Cube.{sum, left_over, cube_of, place_of_cube, moved, least, most, touching_way, equatorial_sides}
 use Rattle.adjacency.proofs.Sides.{WayBetween, common_end}
 use Rattle.adjacency.proofs.Cubes.{room, room_small, place_cube}
 use Rattle.adjacency.proofs.Vertices.{vertex, corner_vertex, vertex-corner}

@@ -4,10 +4,10 @@ use mathlib.Core.Path.{◌≡◌, refl, sym, ap, ◌∙◌}
 use mathlib.Core.Bool.{Bool, true, false, not, cond}
 use native.Mathlib.Omega.{arith}
 use lib.IntN.{ℤ, pos, nat_abs, pos-ne-negsuc}
-use Rattle.corner.specs.Corner.{minus}
+use Rattle.corner.specs.Corner.{minus, side_of}
 use Rattle.corner.proofs.Laws.{size_minus}
-use Rattle.adjacency.specs.declared.Side.{Side}
-use Rattle.adjacency.specs.Cube.{side_of, inward, moved, least, most, taken}
+use Rattle.corner.specs.declared.Side.{Side}
+use Rattle.adjacency.specs.Cube.{inward, moved, least, most, taken}
 
 -- the end of a side that lies u beyond its base
 abbrev pub end : Side → ℕ → ℤ

@@ -8,11 +8,11 @@ use lib.ListN.{get_or}
 use mathlib.Core.Bool.{false, true}
 use Rattle.cell.specs.Cell.{Triangle, up, down, span, Place, Occurs, row, col}
 use Rattle.cell.proofs.Laws.{digit_cases}
-use Rattle.corner.specs.Corner.{Point, minus, equatorial, polar, point_in, corner, triangle_corners, corners, quarters}
+use Rattle.corner.specs.Corner.{Point, minus, equatorial, polar, point_in, corner, triangle_corners, corners, quarters, side_of}
 use Rattle.corner.proofs.Common.{three, index_cases}
-use Rattle.adjacency.specs.declared.Side.{Side}
+use Rattle.corner.specs.declared.Side.{Side}
 use Rattle.adjacency.specs.declared.Cube.{Cube}
-use Rattle.adjacency.specs.Cube.{side_of, left_over, cube_of, equatorial_sides}
+use Rattle.adjacency.specs.Cube.{left_over, cube_of, equatorial_sides}
 use Rattle.adjacency.proofs.Sides.{end}
 use Rattle.adjacency.proofs.Cubes.{room}
 

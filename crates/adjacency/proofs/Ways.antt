@@ -9,11 +9,11 @@ use lib.Dec.{eqb}
 use mathlib.Core.Option.{none, some}
 use Rattle.refusal.proofs.Tests.{parts, both, clash}
 use Rattle.cell.specs.Cell.{Place, Occurs, number}
-use Rattle.corner.specs.Corner.{corners, common}
+use Rattle.corner.specs.Corner.{corners, common, side_of}
 use Rattle.corner.proofs.Common.{three, shared_common, common_meeting, same_coordinates}
-use Rattle.adjacency.specs.declared.Side.{Side}
+use Rattle.corner.specs.declared.Side.{Side}
 use Rattle.adjacency.specs.declared.Cube.{Cube}
-use Rattle.adjacency.specs.Cube.{side_of, sum, inward, moved, moved_cube, least, most, taken, sums_fit, touching_way, cube_of, place_of_cube, cell_along}
+use Rattle.adjacency.specs.Cube.{sum, inward, moved, moved_cube, least, most, taken, sums_fit, touching_way, cube_of, place_of_cube, cell_along}
 use Rattle.adjacency.proofs.Sides.{WayBetween, common_end, SharedEnd, along, base_moved}
 use Rattle.adjacency.proofs.Cubes.{room, room_small, sum_cube, place_cube, Spanned, cube_occurs, cube_place}
 use Rattle.adjacency.proofs.Vertices.{vertex, IsVertex, corner_vertex, vertex-corner}

@@ -3,14 +3,11 @@
 use Rattle.std.specs.Prelude.{ℕ, zero, suc, ◌+◌, ◌-◌, ◌/◌, ◌%◌, ◌^◌, Bool, true, false, ◌&&◌, not, cond, List, leb, eqb, set}
 use Rattle.std.proofs.Math.Option.{Option, none, some}
 use Rattle.cell.specs.Cell.{Triangle, up, down, span, row, col, Place, number}
-use Rattle.corner.specs.Corner.{equatorial}
-use Rattle.adjacency.specs.declared.Side.{Side}
+use Rattle.corner.specs.declared.Side.{Side}
+use Rattle.corner.specs.Corner.{equatorial, side_of}
 use Rattle.adjacency.specs.declared.Cube.{Cube}
 
 -- ---- cubes
-
-abbrev pub side_of : Bool → ℕ → Side
-side_of n b = record { negative = n; base = b }
 
 -- the bases together
 abbrev pub sum : Cube → ℕ

@@ -2,14 +2,9 @@
 // is in crate `touch`. Touching is vertex adjacency.
 #![tactic(auto)]
 
-// One axis of the unit cube that a cell spans: its corners lie at base or base + 1 from zero, on one side of it.
-#[derive(Clone, Copy, Debug, PartialEq, Eq)]
-pub struct Side {
-    pub negative: bool,
-    pub base: u32,
-}
+pub use corner::Side;
 
-// The unit cube that a cell spans, by its three axes.
+// The unit cube that a cell spans, by its three axes: on each its corners lie at base or base + 1 from zero, on one side of it.
 #[derive(Clone, Copy, Debug, PartialEq, Eq)]
 pub struct Cube {
     pub x: Side,

@@ -1,4 +1,5 @@
-// Sets of cells as bits of bytes: docs/RULES.md, 6.1.
+// Sets of cells as bits of bytes: docs/RULES.md, 6.1. Crate `rows` has bits of words of 64: a trait over both, with the laws that the contracts need, would be
+// longer than the four functions.
 #![tactic(auto)]
 
 ghost use Rattle.std.specs.Prelude.{◌≡◌, length, replicate};

@@ -24,6 +24,7 @@ pub struct Border {
 }
 
 // The level, the start cell and the number of codes: each is read and then held against its bound.
+#[tactic(auto, using(crate::proofs::Reading::level_unread, crate::proofs::Reading::level_high, crate::proofs::Reading::leveled, crate::proofs::Reading::started, crate::proofs::Reading::start_unread, crate::proofs::Reading::start_high, varint::proofs::Laws::read_inside))]
 fn read_header(bytes: &[u8]) -> Result<Header, Refusal>
     ensures answer { said_as header_is result ≡ in_order (header_tests bytes.now) (header bytes.now) }
     ensures within { IfOk result (λ h. h.next ≤ length bytes.now) }

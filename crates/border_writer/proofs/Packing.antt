@@ -1,114 +1,60 @@
--- Codes of three bits put into bytes of eight one after another. Assumes nothing.
-use Prim.Native.Nat.{ℕ, suc, ◌+◌, ◌-◌, ◌*◌, ◌/◌, ◌%◌, ◌^◌, ◌≤◌, ◌<◌}
-use mathlib.Core.Path.{◌≡◌, refl, ap, ◌∙◌}
-use mathlib.Core.List.{List}
-use native.Mathlib.Nat.{pow-le-pow_right, mul-le-mul, mul-le-mul_right, mod-eq_of_lt}
-use native.Mathlib.Numerals.{add-one}
+-- Codes of three bits put into bytes of eight: one byte, and the bytes before a place. Assumes nothing.
+use Prim.Native.Nat.{ℕ, zero, suc, ◌+◌, ◌*◌, ◌/◌, ◌%◌, ◌^◌, ◌≤◌, ◌<◌}
+use mathlib.Core.Path.{◌≡◌, sym, ap, ap₂, ◌∙◌}
+use mathlib.Core.List.{List, [], ◌∷◌, ◌++◌}
+use native.Mathlib.Nat.{div-div-eq-div-mul}
 use native.Mathlib.Omega.{arith}
-use lib.ListN.{length, drop, get_or, set, length-set, drop_of_length-le}
+use lib.ListN.{length, take, drop, get_or, set}
 use lib.Pow.{pow-add}
-use lib.Seq.{sets, drop-cons}
-use Rattle.border.specs.Stored.{digits_of, value_of, code_bytes, packed}
+use lib.Seq.{get_or-drop}
+use Rattle.std.proofs.lemmas.List.{drop-drop, take_all, take_more, take_more_set}
+use Rattle.border.specs.Stored.{digits_of, value_of}
+use Rattle.border.proofs.Digits.{length_digits, get_or-digits, value_first, value_drop, pow_pow}
 
--- ---- codes put one after another
+-- the bits of a byte that begins in a code lie in it and in the three after it
+in_four : (s a b c d r : ℕ) → s < 3 → (a + 8 * (b + 8 * (c + 8 * (d + 8 * r)))) / 2 ^ s % 256 ≡ (a + 8 * b + 64 * (c + 8 * d)) / 2 ^ s % 256
+in_four zero a b c d r h = omega arith
+in_four (suc zero) a b c d r h = omega arith
+in_four (suc (suc zero)) a b c d r h = omega arith
+in_four (suc (suc (suc s))) a b c d r h = absurd (omega arith)
 
--- i codes are put: `held` are the `bits` bits of them that fill no byte yet, and what is left goes from `place` on
-pub record Packing (codes out₀ : List ℕ) (at : ℕ) (out : List ℕ) (held bits place i : ℕ) : Type 0 where
-  pub start : at ≤ place
-  pub few : i ≤ length codes
-  pub far : 8 * (place - at) + bits ≡ 3 * i
-  pub short : bits < 8
-  pub small : held < 2 ^ bits
-  pub same : length out ≡ length out₀
-  pub puts :
-      sets out₀ at (packed codes)
-      ≡ sets out place (digits_of 256 (code_bytes (length codes) - (place - at)) (held + 2 ^ bits * value_of 8 (drop i codes)))
+-- a number from byte i on is what its codes from the code where that byte begins say, from the bit in that code on
+from_byte : (v i : ℕ) → v / 256 ^ i ≡ v / 8 ^ (8 * i / 3) / 2 ^ (8 * i % 3)
+from_byte v i =
+    let s : 8 * i ≡ 3 * (8 * i / 3) + 8 * i % 3 = omega arith in
+    ap (λ (x : ℕ). v / x)
+    (pow_pow 2 8 i
+    ∙ ap (λ (n : ℕ). 2 ^ n) s
+    ∙ pow-add 2 (3 * (8 * i / 3)) (8 * i % 3)
+    ∙ ap (λ (x : ℕ). x * 2 ^ (8 * i % 3)) (sym (pow_pow 2 3 (8 * i / 3))))
+    ∙ sym (div-div-eq-div-mul v (8 ^ (8 * i / 3)) (2 ^ (8 * i % 3)))
 
-pub packing_none : (codes out : List ℕ) (at : ℕ) → Packing codes out at out 0 0 at 0
-packing_none codes out at =
-    let s : code_bytes (length codes) - (at - at) ≡ code_bytes (length codes) = omega arith in
-    let v : value_of 8 codes ≡ 0 + 2 ^ 0 * value_of 8 codes = omega arith in
-    record {
-      start = omega arith;
-      few = omega arith;
-      far = omega arith;
-      short = omega arith;
-      small = omega arith;
-      same = refl;
-      puts = rw s (ap (λ (x : ℕ). sets out at (digits_of 256 (code_bytes (length codes)) x)) v);
-    }
+-- the number that codes say from code i on begins with that code
+code_first : (codes : List ℕ) (i : ℕ) → value_of 8 (drop i codes) ≡ get_or codes i 0 + 8 * value_of 8 (drop (i + 1) codes)
+code_first codes i =
+    let e : i + 0 ≡ i = omega arith in
+    value_first 8 (drop i codes) ∙ rw (get_or-drop, drop-drop, e)
 
-module _ (codes out₀ : List ℕ) (at : ℕ) (out : List ℕ) (held bits place i : ℕ) (r : Packing codes out₀ at out held bits place i) where
-  -- bits that fill no byte are below 256
-  pub packing_held : held < 256
-  packing_held = omega (arith, r.small, pow-le-pow_right {n = 2} (omega arith) {i = bits} {j = 8} (omega (arith, r.short)))
+-- byte i
+pub byte_in : (codes : List ℕ) (i : ℕ) → ((i : ℕ) → get_or codes i 0 < 8) →
+    let first = 8 * i / 3 in
+    (get_or codes first 0 + 8 * get_or codes (first + 1) 0 + 64 * (get_or codes (first + 2) 0 + 8 * get_or codes (first + 3) 0)) / 2 ^ (8 * i % 3) % 256
+    ≡ value_of 8 codes / 256 ^ i % 256
+byte_in codes i h =
+    let f = 8 * i / 3 in
+    let two : f + 1 + 1 ≡ f + 2 = omega arith in
+    let three : f + 2 + 1 ≡ f + 3 = omega arith in
+    rw (from_byte, value_drop 8 codes f h, code_first codes f, code_first codes (f + 1), two, code_first codes (f + 2), three, code_first codes (f + 3))
+    (sym (in_four (8 * i % 3) _ _ _ _ _ (omega arith)))
 
-  pub packing_shift : (x : ℕ) → x < 8 → x * 2 ^ bits ≤ 7 * 128
-  packing_shift x h = mul-le-mul {n₁ = x} {n₂ = 7} (omega arith) (pow-le-pow_right {n = 2} (omega arith) {i = bits} {j = 7} (omega (arith, r.short)))
+-- the bytes before place i are put
+pub bytes_put : (n v i b : ℕ) (out : List ℕ) → i < length out → length out ≡ n → take i out ≡ take i (digits_of 256 n v) → b ≡ v / 256 ^ i % 256 →
+    take (i + 1) (set out i b) ≡ take (i + 1) (digits_of 256 n v)
+bytes_put n v i b out h e t q =
+    take_more_set out i b h
+    ∙ ap₂ (λ (xs : List ℕ) (x : ℕ). xs ++ x ∷ []) t (q ∙ sym (get_or-digits 256 n v i (omega arith)))
+    ∙ sym (take_more (digits_of 256 n v) i 0 (omega (arith, length_digits 256 n v)))
 
-  -- the bits with one more code
-  module _ (l : i < length codes) (d : (i : ℕ) → get_or codes i 0 < 8) where
-    more : ℕ
-    more = held + get_or codes i 0 * 2 ^ bits
-
-    more-small : more < 2 ^ (bits + 3)
-    unfolding more
-    more-small = omega (arith, r.small, pow-add 2 bits 3, mul-le-mul_right {m = get_or codes i 0} {n = 7} (2 ^ bits) (omega (arith, d i)))
-
-    value-more : held + 2 ^ bits * value_of 8 (drop i codes) ≡ more + 2 ^ (bits + 3) * value_of 8 (drop (i + 1) codes)
-    unfolding more value_of
-    value-more = rw (add-one i, drop-cons codes i 0 l, pow-add 2 bits 3) (omega arith)
-
-    -- they fill no byte yet
-    pub packing_stay : bits + 3 < 8 → Packing codes out₀ at out (held + get_or codes i 0 * 2 ^ bits) (bits + 3) place (i + 1)
-    unfolding more
-    packing_stay h = record {
-      start = r.start;
-      few = omega arith;
-      far = omega (arith, r.far);
-      short = h;
-      small = more-small;
-      same = r.same;
-      puts = r.puts ∙ rw value-more;
-    }
-
-    -- they fill one
-    pub packing_put : 8 ≤ bits + 3 →
-        Packing codes out₀ at (set out place ((held + get_or codes i 0 * 2 ^ bits) % 256)) ((held + get_or codes i 0 * 2 ^ bits) / 256) (bits + 3 - 8)
-        (place + 1) (i + 1)
-    unfolding more digits_of
-    packing_put h =
-        let t = bits + 3 - 8 in
-        let w = value_of 8 (drop (i + 1) codes) in
-        let e : 2 ^ (bits + 3) ≡ 256 * 2 ^ t = ap (λ (n : ℕ). 2 ^ n) (omega arith) ∙ pow-add 2 8 t in
-        let s : code_bytes (length codes) - (place - at) ≡ suc (code_bytes (length codes) - (place + 1 - at)) = omega (arith, r.far, r.start) in
-        let x = more + 2 ^ (bits + 3) * w in
-        let low : x % 256 ≡ more % 256 = rw e (omega arith) in
-        let left : x / 256 ≡ more / 256 + 2 ^ t * w = rw e (omega arith) in
-        record {
-          start = omega (arith, r.start);
-          few = omega arith;
-          far = omega (arith, r.far, r.start);
-          short = omega (arith, r.short);
-          small = omega (arith, more-small);
-          same = length-set out place _ ∙ r.same;
-          puts = r.puts ∙ rw (value-more, s, low, left, add-one place);
-        }
-
-  -- all are put: the bits that are left are the last byte, or there are none
-  module _ (e : i ≡ length codes) where
-    left_over : held + 2 ^ bits * value_of 8 (drop i codes) ≡ held
-    unfolding value_of
-    left_over = rw (drop_of_length-le codes {i = i} (omega arith)) (omega arith)
-
-    pub packing_last : 0 < bits → sets out₀ at (packed codes) ≡ set out place held
-    unfolding digits_of
-    packing_last h =
-        let s : code_bytes (length codes) - (place - at) ≡ 1 = omega (arith, r.far, r.short) in
-        r.puts ∙ rw (left_over, s, mod-eq_of_lt packing_held)
-
-    pub packing_done : bits ≡ 0 → sets out₀ at (packed codes) ≡ out
-    unfolding digits_of
-    packing_done h =
-        let s : code_bytes (length codes) - (place - at) ≡ 0 = omega (arith, r.far) in
-        r.puts ∙ rw s
+-- all are
+pub all_put : (n v i : ℕ) (out : List ℕ) → length out ≤ i → length out ≡ n → take i out ≡ take i (digits_of 256 n v) → out ≡ digits_of 256 n v
+all_put n v i out h e t = sym (take_all i out h) ∙ t ∙ take_all i (digits_of 256 n v) (omega (arith, length_digits 256 n v))

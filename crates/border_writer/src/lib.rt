@@ -10,6 +10,7 @@ ghost use Rattle.border.specs.Border.{write_border};
 
 use border::MAX_CODES;
 use cell::{CellLevel, CellNumber};
+use codes::Codes;
 use refusal::Refusal;
 
 // Writes the border that runs through some cells: its bytes fill the front of `bytes`. Answers how many there are.
@@ -31,5 +32,5 @@ pub fn write(level: u32, cells: &[CellNumber], bytes: &mut [u8]) -> Result<u32, 
     let mut buffer = [0u8; MAX_CODES as usize];
     let codes = &mut buffer[..count];
     parts::find_codes(level, cells, codes)?;
-    parts::put(level, cells[0], codes, bytes)
+    parts::put(level, cells[0], Codes { each: codes }, bytes)
 }

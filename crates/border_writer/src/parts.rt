@@ -7,7 +7,7 @@ ghost use Rattle.code.specs.Step.{bad_step, found_or};
 ghost use Rattle.border.specs.Border.{max_codes, any_from, codes_of};
 ghost use Rattle.border_writer.specs.inside.Parts.{write_on};
 
-use crate::codes;
+use crate::codes::Codes;
 use cell::{CellLevel, CellNumber};
 use refusal::Refusal;
 
@@ -35,26 +35,26 @@ pub(crate) fn find_codes(
 }
 
 // Puts a border into a slice that has room for it. Answers how many bytes it has.
+#[tactic(auto, using(crate::proofs::Writing::no_room, crate::proofs::Writing::border_put, varint::proofs::Laws::numeral_length))]
 pub(crate) fn put(
     level: CellLevel,
     start: CellNumber,
-    codes: &[u8],
+    codes: Codes<'_>,
     out: &mut [u8],
 ) -> Result<u32, Refusal>
-    requires { (length codes.now ≤ max_codes) × ((i : ℕ) → get_or codes.now i 0 < 8) }
-    ensures { (said result, out.new) ≡ write_on level.k start codes.now out.old }
+    ensures { (said result, out.new) ≡ write_on level.k start codes.entry.each.now out.old }
 {
-    let count = codes.len() as u32;
+    let count = codes.each.len() as u32;
     let header = varint::number_length(level.k)
         + varint::number_length(start)
         + varint::number_length(count);
-    let length = header + (3 * codes.len()).div_ceil(8);
+    let length = header + (3 * codes.each.len()).div_ceil(8);
     if out.len() < length {
         return Err(Refusal::Length);
     }
     let after_level = varint::write_number(level.k, out, 0)?;
     let after_start = varint::write_number(start, out, after_level)?;
     let after_count = varint::write_number(count, out, after_start)?;
-    codes::pack(codes, out, after_count);
+    codes.pack(&mut out[after_count..length]);
     Ok(length as u32)
 }

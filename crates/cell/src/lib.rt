@@ -19,7 +19,7 @@ pub type CellNumber = u32;
 // The highest level of cells.
 pub const MAX_LEVEL: u32 = 14;
 
-// What stands where there is no cell: no level has that number.
+// What stands where there is no cell, in lists and in C: no level has that number.
 pub const NO_CELL: CellNumber = 4294967295;
 
 // Whether a cell's triangle points to its pole or to the equator.

@@ -42,6 +42,7 @@ fn output_of(input: &[u8], out: &mut [u8; OUTPUT]) -> usize
     ensures fits { IsPrefixLen result out.new }
     ensures text { take result out.new ≡ output input.now }
 {
+    // Fixed memory: the cells of the longest border.
     let mut cells = [0; MAX_CELLS];
     match border_reader::read(input, &mut cells) {
         Ok(border) => put_cells(border.level, &cells[..border.count as usize], out),
@@ -50,7 +51,9 @@ fn output_of(input: &[u8], out: &mut [u8; OUTPUT]) -> usize
 }
 
 // The same for every input of which `front` holds the first bytes, n of them: all of it, or as many as are read. The whole buffer is lent, since
-// its length is part of the claim.
+// its length is part of the claim. The ring counter has such a function too, and they stay two: a shared one would take the program's whole claim
+// (`output`) and the buffer's length as parameters, for a body of one call.
+#[tactic(auto, using(crate::proofs::Laws::front_decides))]
 fn output_of_front(front: &[u8], n: usize, out: &mut [u8; OUTPUT]) -> usize
     requires { (length front.now ≡ front_bytes) × (n ≤ front_bytes) }
     ensures fits { IsPrefixLen result out.new }

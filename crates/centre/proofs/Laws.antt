@@ -4,7 +4,7 @@ use Prim.Native.Nat.{ℕ, zero, suc, ◌+◌, ◌*◌, ◌-◌, ◌/◌, ◌%◌
 use mathlib.Core.Path.{◌≡◌, refl, sym, ap, ◌∙◌}
 use mathlib.Core.Bool.{Bool, true, false, cond}
 use native.Mathlib.Nat.{div-lt_iff_lt-mul, le-div_iff_mul-le, mul-div-le, lt-mul-div-succ, mul-div_cancel, mul-div-mul_left, mul_assoc, mul_comm, mul_left_comm}
-use native.Mathlib.Nat.{mul-le-mul, mul-le-mul_left, mul-le-mul_right, mul-lt-mul_of_pos_left}
+use native.Mathlib.Nat.{mul-le-mul, mul-le-mul_left, mul-lt-mul_of_pos_left}
 use native.Mathlib.Omega.{arith}
 use lib.Dec.{ltb}
 use lib.Pow.{pow_pos, pow_mono}
@@ -35,11 +35,6 @@ whole_share k y d h =
     let e : y * (q * q) ≡ w * (y * s) = ap (λ (x : ℕ). y * x) (sym (square_whole k h)) ∙ omega (arith, mul_assoc y s w, mul_comm (y * s) w) in
     let z : 0 < 2 ^ k = pow_pos k in
     rw e (sym (mul-div-mul_left (y * s) d (omega arith)))
-
-pub share_small : (k y : ℕ) → k ≤ max_level → y ≤ 3 * 2 ^ k → y * (q * q / 3 / 2 ^ k) ≤ q * q
-share_small k y h l =
-    let s = q * q / 3 / 2 ^ k in
-    omega (arith, mul-le-mul_right s l, mul_comm s (3 * 2 ^ k), square_whole k h)
 
 -- ---- centres are positions below the pole, off the equator
 

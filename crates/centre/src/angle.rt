@@ -8,7 +8,7 @@ use position::{Latitude, Longitude, QUARTER};
 // A quarter of a turn, as longitudes are counted.
 const QUARTER_TURN: i32 = QUARTER as i32;
 
-// The longitude at which an octant begins.
+// The longitude at which an octant begins. Octants stay numbers, as the rules reckon with them: south of an octant lies that of 4 more.
 #[tactic(auto, unfolding(position::specs::Position::beginning))]
 fn beginning_of(octant: u32) -> i32
     ensures { result ≡ beginning octant }

@@ -1,7 +1,7 @@
 -- What follows from the definitions of charts and their readings. Assumes nothing.
 use Prim.Native.Nat.{ℕ}
 use mathlib.Core.Path.{◌≡◌, refl, sym, ap, ◌∙◌}
-use mathlib.Core.Bool.{Bool, true, false, ◌&&◌, ◌||◌, not, cond}
+use mathlib.Core.Bool.{Bool, true, false, ◌||◌, not, cond}
 use mathlib.Core.List.{List}
 use mathlib.Core.Logic.{◌⊎◌, inl, inr, ◌↔◌}
 use native.Mathlib.Omega.{arith}
@@ -9,7 +9,10 @@ use borrow.Author.Tests.{ltb-true, ltb-false, eqb-true, eqb-false, lt-ltb, le-lt
 use lib.Dec.{ltb, eqb}
 use lib.Ieee as Ieee
 use lib.Ieee.{Float, nan, inf}
-use Rattle.chart.specs.Chart.{lowest, highest, in_range, Reading, fresh, carried, gap, max_days, reading_of, temperature_at, age_at, reading_at, Fresh, Carried, Gap}
+use Rattle.std.specs.Ordering.{is_some_and, is_le, partial_le, float_partial_cmp}
+use Rattle.std.specs.declared.cmp.Ordering.TheVariants.{Less, Equal, Greater}
+use Rattle.std.specs.declared.option.Option.TheVariants.{None, Some}
+use Rattle.chart.specs.Chart.{in_range, Reading, fresh, carried, gap, max_days, reading_of, temperature_at, age_at, reading_at, Fresh, Carried, Gap}
 
 -- ---- the range
 
@@ -18,14 +21,16 @@ unfolding in_range Ieee.le
 infinity true = refl
 infinity false = refl
 
--- past the first comparison the second decides
-pub past_lowest : (t : Float) → Ieee.le lowest t ≡ true → Ieee.le t highest ≡ in_range t
-unfolding in_range
-past_lowest t e = sym (ap (λ (b : Bool). b && Ieee.le t highest) e)
+-- a range of floats asks whether its bounds are at most and at least a number, as `le` does
+at_most : (a b c : Bool) → is_some_and is_le (cond a (Some Less) (cond b (Some Equal) (cond c (Some Greater) None))) ≡ (a || b)
+at_most true b c = refl
+at_most false true c = refl
+at_most false false true = refl
+at_most false false false = refl
 
-pub below_lowest : (t : Float) → Ieee.le lowest t ≡ false → Ieee.le lowest t ≡ in_range t
-unfolding in_range
-below_lowest t e = rw e
+pub compared : (x y : Float) → partial_le float_partial_cmp x y ≡ Ieee.le x y
+unfolding Ieee.le
+compared x y = at_most (Ieee.lt x y) (Ieee.eq x y) (Ieee.lt y x)
 
 -- what is no number is not in range, and neither infinity is
 pub not_a_number : (in_range nan ≡ false) × ((s : Bool) → in_range (inf s) ≡ false)

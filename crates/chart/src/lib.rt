@@ -6,6 +6,7 @@ ghost use Rattle.refusal.specs.Refusal.{said_as, said_done};
 ghost use Rattle.chart.specs.Chart.{chart_call, in_range, reading_of, reading_call, reading_is};
 
 use cell::CellNumber;
+use mask::MaskLevel;
 use refusal::Refusal;
 
 // The lowest and the highest temperature in range.
@@ -26,25 +27,23 @@ pub enum Reading {
     Gap,
 }
 
-// Whether two slices are a chart of a level.
+// Whether two slices are a chart of a level: temperatures and ages lie apart, as callers of the C interface lend them.
 pub fn is_chart(level: u32, temperatures: &[f32], ages: &[u8]) -> Result<(), Refusal>
     ensures { said_done result ≡ chart_call level temperatures.now ages.now }
 {
-    if level > mask::MAX_MASK_LEVEL {
-        return Err(Refusal::Level);
-    }
-    let cells = 8 << (2 * level);
+    let level = MaskLevel::new(level)?;
+    let cells = 8 << (2 * level.k);
     if temperatures.len() != cells || ages.len() != cells {
         return Err(Refusal::Length);
     }
     Ok(())
 }
 
-// Whether a temperature is in range. NaN fails both comparisons.
+// Whether a temperature is in range. NaN is not: it is neither at least the lowest nor at most the highest.
 pub fn in_range(temperature: f32) -> bool
     ensures { result ≡ in_range temperature }
 {
-    LOWEST <= temperature && temperature <= HIGHEST
+    (LOWEST..=HIGHEST).contains(&temperature)
 }
 
 // What a temperature and an age say.
@@ -70,9 +69,7 @@ pub fn reading_of(
 ) -> Result<Reading, Refusal>
     ensures { said_as reading_is result ≡ reading_call level temperatures.now ages.now cell }
 {
-    if mask::MAX_MASK_LEVEL < level {
-        return Err(Refusal::Level);
-    }
+    let level = MaskLevel::new(level)?.k;
     if !cell::is_cell(level, cell) {
         return Err(Refusal::Cell);
     }

@@ -6,12 +6,12 @@ use mathlib.Core.List.{[], ◌∷◌}
 use mathlib.Core.Logic.{◌↔◌, ◌⊎◌, inl, inr}
 use mathlib.Core.Option.{Option, none, some}
 use mathlib.Core.Path.{◌≡◌, refl, sym, ap, subst, ◌∙◌}
-use borrow.Author.Tests.{lt-leb, le-ltb}
+use borrow.Author.Tests.{lt-leb}
 use Rattle.refusal.specs.Answer.{given, refused, in_order}
 use Rattle.refusal.specs.Tests.{bad_level}
-use Rattle.refusal.proofs.Answers.{given≢refused, given_same, gives, same_refusal, tests_left}
+use Rattle.refusal.proofs.Answers.{given≢refused, given_same, gives, tests_left}
 use Rattle.refusal.proofs.Tests.{clash}
-use Rattle.cell.specs.Cell.{Place, place, number, Occurs, cells, cell_tests, bad_cell, place_call, max_level}
+use Rattle.cell.specs.Cell.{Place, place, number, Occurs, cells, cell_tests, bad_cell, max_level}
 use Rattle.cell.proofs.Laws.{number_place}
 use Rattle.cell.proofs.Answers.{Given, in-range, accepted_with, accepts, given_at}
 use Rattle.code.specs.Step.{step, missing, found_or, bad_step, code_to, step_call, code_call}
@@ -159,14 +159,3 @@ no_code_joins k m n h l l' = (
     by none e u = sym (given_code k m n (place k m) (place k n) none (cell_of k m h l) (cell_of k n h l') e)
     by (some c) e u =
         absurd (u c ((calls_agree k m n c).0 (sym (given_code k m n (place k m) (place k n) (some c) (cell_of k m h l) (cell_of k n h l') e))))
-
--- the call is refused where the first place is, or where only the second is, by the same number
-pub refused_from : (k m n i : ℕ) → refused i ≡ place_call k m → refused i ≡ code_call k m n
-refused_from k m n i = same_refusal (cell_tests k m) (bad_cell k n ∷ bad_step (code_to k n (place k m)) ∷ []) _ _ i
-
-pub refused_to : (k m n i : ℕ) (p : Place) → Given k m p → refused i ≡ place_call k n → refused i ≡ code_call k m n
-refused_to k m n i p g e =
-    let us = bad_step (code_to k n (place k m)) ∷ [] in
-    let level = gives (bad_level max_level k ∷ []) (place k n) (le-ltb max_level k g.level, tt) in
-    let f = e ∙ sym (tests_left (bad_level max_level k ∷ []) (bad_cell k n ∷ []) _ _ (place k n) level) in
-    same_refusal (bad_cell k n ∷ []) us _ _ i f ∙ tests_left (cell_tests k m) (bad_cell k n ∷ us) _ _ _ (accepts k m (place k m) g.level g.below)

@@ -9,6 +9,7 @@ use mir.Syntax.{w32}
 use mir.Val.{SFits, of_z, to_z}
 use mir.Facts.{to_z-of_z}
 use Rattle.refusal.proofs.Tests.{clash}
+use Rattle.corner.specs.declared.Side.{Side}
 use Rattle.corner.specs.Corner.{minus, equatorial, first_of, same_number}
 use Rattle.corner.proofs.Octants.{first_signed, first_below}
 
@@ -24,11 +25,11 @@ pub held : (b : Bool) (n : ℕ) → n < 2 ^ 31 → (z : ℤ) → z ≡ cond b (m
 held b n h z e = rw e (to_z-of_z (signed_fits b n h))
 
 -- so is the first number of a point of an octant
-pub held_first : (o l r : ℕ) → l < 2 ^ 31 → r < 2 ^ 31 → (x : Bool × ℕ) → x ≡ first_of o l r → (z : ℤ) → z ≡ cond x.0 (minus x.1) (pos x.1) →
+pub held_first : (o l r : ℕ) → l < 2 ^ 31 → r < 2 ^ 31 → (x : Side) → x ≡ first_of o l r → (z : ℤ) → z ≡ cond x.negative (minus x.base) (pos x.base) →
     to_z w32 (of_z w32 z) ≡ (equatorial pos minus o l r).0
 held_first o l r hl hr x e z d =
     let f = first_of o l r in
-    held f.0 f.1 (first_below o l r (2 ^ 31) hl hr) z (rw e at d) ∙ first_signed pos minus l r o
+    held f.negative f.base (first_below o l r (2 ^ 31) hl hr) z (rw e at d) ∙ first_signed pos minus l r o
 
 -- ---- two numbers are the same exactly when `same_number` says so
 

@@ -3,6 +3,7 @@ use Rattle.std.specs.Prelude.{ℕ, ◌+◌, ◌-◌, ◌%◌, ◌^◌, Bool, tru
 use Rattle.refusal.specs.Answer.{Answer, in_order}
 use Rattle.refusal.specs.Tests.{bad_level}
 use Rattle.cell.specs.Cell.{Triangle, up, down, Place, place, max_level, bad_cell}
+use Rattle.corner.specs.declared.Side.{Side}
 
 -- ---- points
 
@@ -29,9 +30,13 @@ quarters plus minus l r = (plus l, plus r) ∷ (minus r, plus l) ∷ (minus l, m
 unfoldable pub equatorial : {A : Type 0} → (ℕ → A) → (ℕ → A) → ℕ → ℕ → ℕ → A × A
 equatorial plus minus o l r = get_or (quarters plus minus l r) (o % 4) (plus l, plus r)
 
--- the first of them as its sign and its size: whether it is negative, and which of L and R it has
-abbrev pub first_of : ℕ → ℕ → ℕ → Bool × ℕ
-first_of o l r = (equatorial (λ n. (false, n)) (λ n. (true, n)) o l r).0
+-- a number by its side of zero: whether it is negative, and its size
+abbrev pub side_of : Bool → ℕ → Side
+side_of n b = record { negative = n; base = b }
+
+-- the first of the two so
+abbrev pub first_of : ℕ → ℕ → ℕ → Side
+first_of o l r = (equatorial (side_of false) (side_of true) o l r).0
 
 -- the third number: T, and in the south −T
 unfoldable pub polar : ℕ → ℕ → ℤ

@@ -3,35 +3,33 @@ ghost use Rattle.std.specs.Prelude.{◌≡◌, cond, ◌+◌, ◌^◌, ◌<◌, 
 ghost use Rattle.cell.specs.Cell.{place_of};
 ghost use Rattle.corner.specs.Corner.{minus, first_of, corner, corners};
 
+use crate::Side;
 use cell::{CellLevel, Kind, Place, Site};
 
-// The first of the two numbers that an octant makes of L and R: whether it is negative, and its size. The second is the first of the octant three on.
+// The first of the two numbers that an octant makes of L and R. The second is the first of the octant three on, so octants stay numbers.
 #[tactic(auto, unfolding(crate::specs::Corner::equatorial))]
-pub fn first_of(octant: u32, l: u32, r: u32) -> (bool, u32)
+pub fn first_of(octant: u32, l: u32, r: u32) -> Side
     ensures { result ≡ first_of octant l r }
 {
-    match octant % 4 {
+    let (negative, base) = match octant % 4 {
         0 => (false, l),
         1 => (true, r),
         2 => (true, l),
         _ => (false, r),
-    }
+    };
+    Side { negative, base }
 }
 
-// A number by its sign and its size.
-fn signed(number: (bool, u32)) -> i32
-    requires { number.1 < 2 ^ 31 }
-    ensures { result ≡ cond number.0 (minus number.1) (pos number.1) }
+// The number on a side of zero.
+fn signed(side: Side) -> i32
+    requires { side.base < 2 ^ 31 }
+    ensures { result ≡ cond side.negative (minus side.base) (pos side.base) }
 {
-    let (negative, size) = number;
-    if negative {
-        -(size as i32)
-    } else {
-        size as i32
-    }
+    let size = side.base as i32;
+    if side.negative { -size } else { size }
 }
 
-// The corner with T and R in an octant, where L is N − T − R.
+// The corner with T and R in an octant, where L is N − T − R. The octant stays a number with its bound: a `Place` has it so.
 fn corner_of(level: CellLevel, octant: u32, t: u32, r: u32) -> [i32; 3]
     requires { (octant < 8) × (t + r ≤ 2 ^ level.k) }
     ensures { result ≡ corner level.k octant t r }
@@ -40,7 +38,10 @@ fn corner_of(level: CellLevel, octant: u32, t: u32, r: u32) -> [i32; 3]
     [
         signed(first_of(octant, l, r)),
         signed(first_of(octant + 3, l, r)),
-        signed((4 <= octant, t)),
+        signed(Side {
+            negative: 4 <= octant,
+            base: t,
+        }),
     ]
 }
 

@@ -14,6 +14,13 @@ mod corners;
 
 pub use corners::first_of;
 
+// A side of zero, and how far from zero a number lies there. Zero lies on either side, so this is no signed number.
+#[derive(Clone, Copy, Debug, PartialEq, Eq)]
+pub struct Side {
+    pub negative: bool,
+    pub base: u32,
+}
+
 // Whether two cells' corners have a point in common.
 fn have_common(ps: &[[i32; 3]; 3], qs: &[[i32; 3]; 3]) -> bool
     requires { All (λ p. length p ≡ 3) ps.now × All (λ q. length q ≡ 3) qs.now }

@@ -13,15 +13,14 @@ use Rattle.refusal.specs.Answer.{refused}
 use Rattle.refusal.proofs.Answers.{given≢refused}
 use Rattle.cell.specs.declared.Kind.{Kind}
 use Rattle.cell.specs.declared.Kind.TheVariants.{Up, Down}
-use Rattle.cell.specs.Cell.{span, triangle_of, place, place_call, number, cells, max_level}
+use Rattle.cell.specs.Cell.{Place, Occurs, span, triangle_of, place, place_call, number, cells, max_level}
+use Rattle.cell.proofs.Laws.{number_below, place_number}
 use Rattle.cell.proofs.Answers.{accepts}
 use Rattle.adjacency.specs.declared.Cube.{Cube}
-use Rattle.corner.specs.Corner.{first_of}
-use Rattle.corner.proofs.Octants.{first_signed}
-use Rattle.adjacency.specs.Cube.{side_of, equatorial_sides, sum, cube_of, place_of_cube, moved_cube, touching_way, cell_along, with_cell, gathered}
+use Rattle.adjacency.specs.Cube.{sum, cube_of, place_of_cube, moved_cube, touching_way, cell_along, with_cell, gathered}
 use Rattle.adjacency.proofs.Cubes.{room_small, sum_cube}
 use Rattle.adjacency.proofs.Counts.{passes}
-use Rattle.adjacency.proofs.Listed.{along_way, here, few}
+use Rattle.adjacency.proofs.Listed.{along_way, few}
 use Rattle.cubes.specs.Cubes.{gather_call}
 
 -- ---- a triangle's span by the kind that the code has
@@ -33,16 +32,6 @@ span_up kind a b e = rw e
 pub span_down : (kind : Kind) (a b : ℕ) → kind ≡ Down → span (triangle_of kind a b) ≡ a + b + 2
 unfolding span
 span_down kind a b e = rw e
-
--- ---- the sides of an octant
-
-sign_of : (b : Bool) (n : ℕ) → side_of b n ≡ cond b (side_of true n) (side_of false n)
-sign_of true n = refl
-sign_of false n = refl
-
--- the first, by its sign and its base
-pub first_side : (o l r : ℕ) (f : Bool × ℕ) → f ≡ first_of o l r → side_of f.0 f.1 ≡ (equatorial_sides o l r).0
-first_side o l r f e = rw e (sign_of (first_of o l r).0 (first_of o l r).1 ∙ first_signed (side_of false) (side_of true) l r o)
 
 -- ---- the ways
 
@@ -65,16 +54,17 @@ gathered_count k c s (suc w) = go (touching_way (2 ^ k - sum c) c w) (gathered_c
     go true e = omega (arith, e)
     go false e = omega (arith, e)
 
-module _ (k n : ℕ) (hn : n < cells k) (c : Cube) (is : c ≡ cube_of k (place k n)) where
+module _ (k : ℕ) (p : Place) (o : Occurs k p) (c : Cube) (is : c ≡ cube_of k p) where
   pub rooms : (sum c + (2 ^ k - sum c) ≡ 2 ^ k) × (1 ≤ 2 ^ k - sum c) × (2 ^ k - sum c ≤ 2)
-  rooms = omega (arith, ap sum is, sum_cube k (place k n) (here k n hn), room_small (place k n).1)
+  rooms = omega (arith, ap sum is, sum_cube k p o, room_small p.1)
 
   -- a way that finds a cell finds room for it
   pub room_found : (s : List ℕ) (w x : ℕ) → w < 27 → cell_along k c w ≡ some x → (gathered k c s w).1 < 12
   unfolding passes
   room_found s w x h e =
       let t = (along_way k c w x e).test in
-      let f = subst (λ (d : Cube). passes (touching_way (2 ^ k - sum d) d) (suc w) ≤ 12) (sym is) (few k n hn (suc w) h) in
+      let d : c ≡ cube_of k (place k (number k p)) = is ∙ ap (cube_of k) (sym (place_number k p o)) in
+      let f = subst (λ (d : Cube). passes (touching_way (2 ^ k - sum d) d) (suc w) ≤ 12) (sym d) (few k (number k p) (number_below k p o) (suc w) h) in
       omega (arith, gathered_count k c s w, rw t at f)
 
 -- ---- the call

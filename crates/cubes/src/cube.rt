@@ -1,19 +1,11 @@
 // Cells as unit cubes of the whole numbers.
 ghost use Rattle.std.specs.Prelude.{◌≡◌, cond, ◌+◌, ◌-◌, ◌^◌, ◌<◌, ◌≤◌};
 ghost use Rattle.cell.specs.Cell.{span, triangle_of, place_of};
-ghost use Rattle.adjacency.specs.Cube.{sum, side_of, cube_of, northern_octant, column, place_in};
+ghost use Rattle.adjacency.specs.Cube.{sum, cube_of, northern_octant, column, place_in};
 
 use adjacency::{Cube, Side};
 use cell::{Kind, Place, Site};
 use corner::first_of;
-
-// The side by its sign and its base.
-fn side_of(side: (bool, u32)) -> Side
-    ensures { result ≡ side_of side.0 side.1 }
-{
-    let (negative, base) = side;
-    Side { negative, base }
-}
 
 // The base on the axis of L: what row, column and kind leave of n rows.
 #[tactic(auto, using(crate::proofs::Gathering::span_up, crate::proofs::Gathering::span_down))]
@@ -39,32 +31,39 @@ pub(crate) fn cube_of(site: Site) -> Cube
     } = site.place;
     let l = left_over(1 << site.level.k, kind, row, col);
     Cube {
-        x: side_of(first_of(octant, l, col)),
-        y: side_of(first_of(octant + 3, l, col)),
-        z: side_of((4 <= octant, row)),
+        x: first_of(octant, l, col),
+        y: first_of(octant + 3, l, col),
+        z: Side {
+            negative: 4 <= octant,
+            base: row,
+        },
     }
 }
 
-// The octant by the signs: whether x, y and z are negative.
+// The octant in which a cube lies.
 #[tactic(auto, unfolding(adjacency::specs::Cube::northern_octant))]
-fn octant_of(x: bool, y: bool, z: bool) -> u32
-    ensures { result ≡ northern_octant x y + cond z 4 0 }
+fn octant_of(cube: Cube) -> u32
+    ensures { result ≡ northern_octant cube.x.negative cube.y.negative + cond cube.z.negative 4 0 }
 {
-    let north = match (x, y) {
+    let north = match (cube.x.negative, cube.y.negative) {
         (false, false) => 0,
         (true, false) => 1,
         (true, true) => 2,
         (false, true) => 3,
     };
-    if z { north + 4 } else { north }
+    if cube.z.negative { north + 4 } else { north }
 }
 
-// The column by the signs of x and y: in octants 1 and 3 x and y change places.
+// The column: in octants 1 and 3 x and y change places.
 #[tactic(auto, unfolding(adjacency::specs::Cube::column))]
-fn column_of(a: bool, b: bool, x: u32, y: u32) -> u32
-    ensures { result ≡ column a b x y }
+fn column_of(x: Side, y: Side) -> u32
+    ensures { result ≡ column x.negative y.negative x.base y.base }
 {
-    if a == b { y } else { x }
+    if x.negative == y.negative {
+        y.base
+    } else {
+        x.base
+    }
 }
 
 // The place of the cell of a level with n rows that spans a cube.
@@ -75,14 +74,14 @@ pub(crate) fn place_of_cube(n: u32, cube: Cube) -> Place
 {
     let Cube { x, y, z } = cube;
     Place {
-        octant: octant_of(x.negative, y.negative, z.negative),
+        octant: octant_of(cube),
         kind: if x.base + y.base + z.base + 1 == n {
             Kind::Up
         } else {
             Kind::Down
         },
         row: z.base,
-        col: column_of(x.negative, y.negative, x.base, y.base),
+        col: column_of(x, y),
     }
 }
 

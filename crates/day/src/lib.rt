@@ -14,7 +14,7 @@ use refusal::Refusal;
 // The age that a day gives a cell with nothing to read.
 const GAP_AGE: u8 = 255;
 
-// How many cells are fresh, and the lowest and the highest of their temperatures.
+// How many cells are fresh, and the lowest and the highest of their temperatures; where there are none, both are 0.0, as the rules have it.
 #[derive(Clone, Copy, Debug, PartialEq)]
 pub struct Summary {
     pub count: u32,

@@ -1,8 +1,9 @@
 -- What follows from the answers of filling. Assumes nothing.
-use Prim.Native.Nat.{ℕ, ◌^◌, ◌≤◌, ◌<◌}
+use Prim.Native.Nat.{ℕ, ◌*◌, ◌%◌, ◌^◌, ◌≤◌, ◌<◌}
 use mathlib.Core.Path.{◌≡◌, ap, ◌∙◌}
 use mathlib.Core.Bool.{false, not}
 use mathlib.Core.List.{List}
+use native.Mathlib.Omega.{arith}
 use borrow.Author.Tests.{ltb-false, leb-false}
 use lib.ListN.{length}
 use Rattle.refusal.specs.Answer.{given, in_order, done}
@@ -12,7 +13,12 @@ use Rattle.bitset.specs.Bits.{marked, bytes_of, outside}
 use Rattle.bitset.proofs.Laws.{length_bytes_of, marked_bytes_of, bytes_of_cong}
 use Rattle.cell.specs.Cell.{cells}
 use Rattle.mask.specs.Mask.{max_mask_level}
+use Rattle.mask.proofs.Laws.{level_shifted}
 use Rattle.fill.specs.Fill.{reachable, unreached, fill_tests, fill_call}
+
+-- how many bytes a mask of a level has, as the code shifts the count
+pub bytes_shifted : (k : ℕ) → k ≤ max_mask_level → 1 * 2 ^ (2 * k) % 2 ^ 64 ≡ 4 ^ k
+bytes_shifted k h = level_shifted 64 1 k h (omega arith) ∙ omega arith
 
 -- a border, an outside cell and a slice, as filling takes them
 pub record Ready (k : ℕ) (a : List ℕ) (o : ℕ) (out : List ℕ) : Type 0 where

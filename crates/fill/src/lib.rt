@@ -5,9 +5,10 @@ ghost use Rattle.std.specs.Prelude.{◌≡◌};
 ghost use Rattle.refusal.specs.Answer.{in_order};
 ghost use Rattle.refusal.specs.Refusal.{said_as, said_done};
 ghost use Rattle.fill.specs.Fill.{fill_tests, fill_call};
+ghost use Rattle.fill.specs.inside.Tested.{outside_is};
 
 use cell::CellNumber;
-use mask::MaskLevel;
+use mask::{MaskCell, MaskLevel};
 use refusal::Refusal;
 
 mod search;
@@ -16,20 +17,21 @@ mod search;
 pub fn fill(level: u32, border: &[u8], outside: CellNumber, out: &mut [u8]) -> Result<(), Refusal>
     ensures { (said_done result, out.new) ≡ fill_call level border.now outside out.old }
 {
-    let level = fill_tests(level, border, outside, out)?;
-    search::reach_all(level, outside, border, out);
+    let outside = fill_tests(level, border, outside, out)?;
+    search::reach_all(outside, border, out);
     bitset::complement(out);
     Ok(())
 }
 
-// The tests, in the order of their numbers. Past them the level is one of masks.
+// The tests, in the order of their numbers. Past them the outside cell is one of a level of masks.
+#[tactic(auto, using(crate::proofs::Answers::bytes_shifted))]
 fn fill_tests(
     level: u32,
     border: &[u8],
     outside: CellNumber,
     out: &[u8],
-) -> Result<MaskLevel, Refusal>
-    ensures { said_as (λ l. l.k) result ≡ in_order (fill_tests level border.now outside out.now) level }
+) -> Result<MaskCell, Refusal>
+    ensures { said_as outside_is result ≡ in_order (fill_tests level border.now outside out.now) (level, outside) }
 {
     let level = MaskLevel::new(level)?;
     if !cell::is_cell(level.k, outside) {
@@ -45,5 +47,9 @@ fn fill_tests(
     if bitset::is_marked(border, outside) {
         return Err(Refusal::Outside);
     }
-    Ok(level)
+    let outside = MaskCell {
+        level,
+        number: outside,
+    };
+    Ok(outside)
 }

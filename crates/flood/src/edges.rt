@@ -1,4 +1,5 @@
-// Steps over the edges of the octants, cell by cell. Only up cells take them. An octant is the number of the range in `reach_over`.
+// Steps over the edges of the octants, cell by cell. Only up cells take them. An octant is the number of the range in `reach_over`. `open_up` and `up` are
+// rows of up cells alone, open ones to read and reached ones to write.
 ghost use Rattle.std.specs.Prelude.{List, ℕ, ◌^◌, ◌<◌};
 ghost use Rattle.rows.specs.Rows.{spot_count};
 ghost use Rattle.flood.specs.Flood.{Pair, Edges, EdgesOf, Over};
@@ -8,7 +9,8 @@ use crate::words;
 use mask::MaskLevel;
 use rows::Rows;
 
-// Reaches one spot, where it is open and another is reached. Answers whether that changed anything.
+// Reaches one spot, where it is open and another is reached. Answers whether that changed anything. A spot stays a number with its bound, since
+// `rows::spot_of` also answers the first spot past all bits.
 fn reach_one(from: u32, to: u32, open_up: &Rows, up: &mut Rows) -> bool
     requires { (from < spot_count) × (to < spot_count) }
     ensures { (od d : List ℕ) → Turn (One from to) open_up.now od up.old d up.new d result }
@@ -30,6 +32,7 @@ fn reach_pair(one: u32, other: u32, open_up: &Rows, up: &mut Rows) -> bool
 }
 
 // Reaches cells over an octant's edge to the east, in row n, and over the equator, in column n.
+#[tactic(auto, using(rows::proofs::Spots::spot_told, rows::proofs::Spots::size_shifted, rows::proofs::Spots::size_low), unfolding(code::specs::Step::east))]
 fn reach_edges(level: MaskLevel, octant: u32, n: u32, open_up: &Rows, up: &mut Rows) -> bool
     requires { (octant < 8) × (n < 2 ^ level.k) }
     ensures { (od d : List ℕ) → Turn (Edges level.k octant n) open_up.now od up.old d up.new d result }

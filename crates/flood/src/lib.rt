@@ -26,6 +26,7 @@ pub fn flood(level: u32, opened: &CellRows, reached: &mut CellRows)
     let Ok(level) = MaskLevel::new(level) else {
         return;
     };
+    // No index is counted: the rounds end when one changes nothing.
     let mut changed = true;
     while changed {
         changed = go_round(level, opened, reached);

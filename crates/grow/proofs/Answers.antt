@@ -1,6 +1,6 @@
 -- What follows from the answers of growing and shrinking, whose tests are the same. Assumes nothing.
 use Prim.Native.Nat.{ℕ, ◌^◌, ◌≤◌}
-use mathlib.Core.Path.{◌≡◌, sym, ap, ap₂, ◌∙◌}
+use mathlib.Core.Path.{◌≡◌, ap, ap₂, ◌∙◌}
 use mathlib.Core.List.{List}
 use borrow.Author.Tests.{ltb-false}
 use lib.ListN.{length}
@@ -30,11 +30,6 @@ ready k m a out work e =
       working = length_is (4 ^ k) work t.1.1.1.0;
       rings = ltb-false max_rings m t.1.1.1.1.0;
     }
-
--- where the tests refuse, both slices stay, whatever would be written
-pub refused_alike : {S : Type 0} (answer : Answer (Unit {0})) (s before after other : S) (n : ℕ) → (refused n, s) ≡ lending answer before after → (refused n, s) ≡ lending answer before other
-refused_alike {S} (given a) s before after other n e = given≢refused (sym (ap (λ (p : Answer (Unit {0}) × S). p.0) e))
-refused_alike (refused m) s before after other n e = e
 
 -- and where they do not, both are as the call writes them
 pub prepared : {S : Type 0} (answer : Answer (Unit {0})) (s before after : S) → (given done, s) ≡ lending answer before after → (given done ≡ answer) × (s ≡ after)

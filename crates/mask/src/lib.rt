@@ -1,9 +1,10 @@
 // Masks of cells: docs/RULES.md, 6.
 #![tactic(auto)]
 
-ghost use Rattle.std.specs.Prelude.{◌≡◌, ◌*◌, ◌^◌, ◌≤◌, length};
+ghost use Rattle.std.specs.Prelude.{◌≡◌, ◌*◌, ◌^◌, ◌<◌, ◌≤◌, length};
 ghost use Rattle.refusal.specs.Refusal.{said, said_as, said_done};
-ghost use Rattle.bitset.specs.Bits.{marked, bytes_of, size};
+ghost use Rattle.bitset.specs.Bits.{Bytes, marked, bytes_of, size};
+ghost use Rattle.cell.specs.Cell.{cells};
 ghost use Rattle.mask.specs.Mask.{max_mask_level, union, difference, lowest, inclusion_of, mask_call, join_call, count_call, within_call};
 
 use cell::{CellNumber, Level};
@@ -14,6 +15,31 @@ pub const MAX_MASK_LEVEL: u32 = 8;
 
 // A level of masks and charts.
 pub type MaskLevel = Level<MAX_MASK_LEVEL>;
+
+// A cell of such a level, by its number.
+#[derive(Clone, Copy)]
+pub struct MaskCell {
+    pub level: MaskLevel,
+    pub number: CellNumber,
+    ghost below: { number < cells level.k },
+}
+
+// A mask of a level, lent to read.
+#[derive(Clone, Copy)]
+pub struct Mask<'a> {
+    pub level: MaskLevel,
+    pub bytes: &'a [u8],
+    ghost whole: { length bytes.now ≡ 4 ^ level.k },
+}
+
+// A mask of a level, lent to write. What is left in it stands at `.exit.0.now`, by the order of the fields.
+#[derive(Drop)]
+pub struct MaskMut<'a> {
+    pub bytes: &'a mut [u8],
+    pub level: MaskLevel,
+    ghost whole: { length bytes.now ≡ 4 ^ level.k },
+    ghost fits: { Bytes bytes.now },
+}
 
 // Whether a slice is a mask of a level: the tests that every call on masks begins with.
 pub fn is_mask(level: u32, mask: &[u8]) -> Result<(), Refusal>

@@ -25,10 +25,6 @@ pub minus : (p : ℕ) → pos 0 -ℤ pos p ≡ neg_ℤ (pos p)
 minus zero = refl
 minus (suc n) = rw (lt-ltb 0 (suc n) (omega arith)) (ap negsuc (omega arith))
 
-pub minus_fits : (p : ℕ) → p < 2 ^ 31 → mag (neg_ℤ (pos p)) < 2 ^ 31
-minus_fits zero h = h
-minus_fits (suc n) h = omega arith
-
 -- a longitude in range fits
 pub inside_fits : (z : ℤ) → longitude_out z ≡ false → mag z < 2 ^ 31
 inside_fits (pos n) h = omega (arith, leb-false (2 * q) n h)

@@ -9,6 +9,7 @@ ghost use Rattle.refusal.specs.Refusal.{said};
 ghost use Rattle.position.specs.Position.{cell_call};
 
 use cell::{CellLevel, CellNumber};
+use place::InOctant;
 use refusal::Refusal;
 
 // Whole millionths of a degree, north of the equator; in the south they are negative.
@@ -37,6 +38,6 @@ pub fn cell_at(level: u32, latitude: Latitude, longitude: Longitude) -> Result<C
     }
     let octant = angle::octant_of(latitude, longitude);
     let m = angle::from_west(longitude) % QUARTER;
-    let place = place::place_at(level, octant, p, m);
+    let place = place::place_at(level, InOctant { octant, p, m });
     cell::number_of(level.k, place)
 }

@@ -23,26 +23,37 @@ struct Share {
     rest: u64,
 }
 
-// n · part / q², by q² / n, which is whole to level 14: the product itself can pass 64 bits.
-fn share_of(level: CellLevel, n: u64, part: u64) -> Share
-    requires { (n ≡ 2 ^ level.k) × (part < q * q) }
-    ensures whole { result.whole ≡ n * part / (q * q) }
-    ensures rest { result.rest ≡ n * part % (q * q) }
+// N · part / q², by q² / N, which is whole to level 14: the product itself can pass 64 bits.
+fn share_of(level: CellLevel, part: u64) -> Share
+    requires { part < q * q }
+    ensures whole { result.whole ≡ 2 ^ level.k * part / (q * q) }
+    ensures rest { result.rest ≡ 2 ^ level.k * part % (q * q) }
 {
     let unit = SQUARE >> level.k;
     let whole = part / unit;
-    let rest = part % unit * n;
+    let rest = part % unit * rows_of(level);
     Share { whole, rest }
 }
 
+// A position by its octant: p is how far it lies from the equator, and m how far east of where the octant begins.
+#[derive(Clone, Copy)]
+pub(crate) struct InOctant {
+    pub(crate) octant: u32,
+    pub(crate) p: u64,
+    pub(crate) m: u64,
+    ghost to_the_pole: { p ≤ q },
+    ghost within: { m < q },
+}
+
 // The place of a position below the pole: the whole parts of T and R are row and column, and what is left over of both tells up from down.
-fn holder_of(level: CellLevel, octant: u32, p: u64, m: u64) -> Place
-    requires { (p < q) × (m < q) }
-    ensures { place_of result ≡ (octant, holder level.k p m) }
+fn holder_of(level: CellLevel, at: InOctant) -> Place
+    requires { at.p < q }
+    ensures { place_of result ≡ (at.octant, holder level.k at.p at.m) }
 {
+    let InOctant { octant, p, m } = at;
     let n = rows_of(level);
     let high = n * p;
-    let r = share_of(level, n, m * (QUARTER - p));
+    let r = share_of(level, m * (QUARTER - p));
     let row = (high / QUARTER) as u32;
     let col = r.whole as u32;
     let kind = if high % QUARTER * QUARTER + r.rest < SQUARE {
@@ -59,10 +70,10 @@ fn holder_of(level: CellLevel, octant: u32, p: u64, m: u64) -> Place
 }
 
 // The place of a position of an octant: at the pole it is the octant's last row.
-pub(crate) fn place_at(level: CellLevel, octant: u32, p: u64, m: u64) -> Place
-    requires { (p ≤ q) × (m < q) }
-    ensures { place_of result ≡ (octant, triangle_at level.k p m) }
+pub(crate) fn place_at(level: CellLevel, at: InOctant) -> Place
+    ensures { place_of result ≡ (at.octant, triangle_at level.k at.p at.m) }
 {
+    let InOctant { octant, p, .. } = at;
     if p == QUARTER {
         let row = (rows_of(level) - 1) as u32;
         Place {
@@ -72,6 +83,6 @@ pub(crate) fn place_at(level: CellLevel, octant: u32, p: u64, m: u64) -> Place
             col: 0,
         }
     } else {
-        holder_of(level, octant, p, m)
+        holder_of(level, at)
     }
 }

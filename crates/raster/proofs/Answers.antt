@@ -12,8 +12,7 @@ use Rattle.refusal.specs.Refusal.{said_done}
 use Rattle.refusal.specs.declared.Refusal.{Refusal}
 use Rattle.refusal.proofs.Answers.{gives, given≢refused}
 use Rattle.refusal.proofs.Tests.{both, parts, length_passes}
-use Rattle.cell.specs.declared.Kind.{Kind}
-use Rattle.cell.specs.Cell.{triangle_of}
+use Rattle.cell.specs.Cell.{Triangle}
 use Rattle.mask.specs.Mask.{max_mask_level, mask_tests, mask_call}
 use Rattle.mask.proofs.Answers.{is_mask_lem}
 use Rattle.rows.specs.Rows.{lit}
@@ -40,5 +39,5 @@ unfolding is_mask
 mask_is k a e = let p = parts _ _ e in (leb-true k max_mask_level p.0, eqb-true (length a) (4 ^ k) p.1)
 
 -- what is added to cleared rows is all that they hold
-pub all_added : (t : Kind) (k n : ℕ) (A : ℕ → Bool) (q r : List ℕ) → q ≡ replicate n 0 → Added (triangle_of t) k A q r → (i : ℕ) → lit r i ≡ cell_at (triangle_of t) k A i
-all_added t k n A q r e f i = f i ∙ ap (λ (b : Bool). b || cell_at (triangle_of t) k A i) (ap (λ (l : List ℕ). lit l i) e ∙ lit_zeros n i)
+pub all_added : (kind : ℕ → ℕ → Triangle) (k n : ℕ) (A : ℕ → Bool) (r : List ℕ) → Added kind k A (replicate n 0) r → (i : ℕ) → lit r i ≡ cell_at kind k A i
+all_added kind k n A r f i = f i ∙ ap (λ (b : Bool). b || cell_at kind k A i) (lit_zeros n i)

@@ -14,7 +14,7 @@ use Rattle.cell.proofs.Laws.{place_occurs, place_number, number_place, number_be
 use Rattle.cell.proofs.Answers.{Given}
 use Rattle.rows.specs.Rows.{lit, spot, octant_at, row_at, col_at}
 use Rattle.rows.proofs.Spots.{spot_again, size_low}
-use Rattle.raster.specs.Raster.{cell_at, triangle_lit, cell_lit}
+use Rattle.raster.specs.Raster.{cell_at}
 use Rattle.raster.specs.inside.Pieces.{Added}
 
 -- ---- one spot
@@ -136,12 +136,3 @@ one_at k s t c o a b i h l e = same_test (cell_at (triangle_of s) k (eqb c) i) (
 pub one_added : (k : ℕ) (s t : Kind) (c o a b : ℕ) (q r : List ℕ) → k ≤ 8 → Given k c (o, triangle_of t a b) →
     ((i : ℕ) → lit r i ≡ (lit q i || (same_kind s t && eqb i (spot o a b)))) → Added (triangle_of s) k (eqb c) q r
 one_added k s t c o a b q r h g f i = f i ∙ ap (λ (x : Bool). lit q i || x) (sym (one_at k s t c o a b i h g.below g.at))
-
--- where a cell lies, once its kind is told
-pub kind_told : (k c o a b : ℕ) (s t : Kind) → s ≡ t → Given k c (o, triangle_of s a b) → Given k c (o, triangle_of t a b)
-kind_told k c o a b s t e g = subst (λ (u : Kind). Given k c (o, triangle_of u a b)) e g
-
--- a cell's own spot
-pub cell_lit_lem : (k c o a b : ℕ) (t : Kind) (u d : List ℕ) → Given k c (o, triangle_of t a b) → cell_lit k u d c ≡ triangle_lit u d o (triangle_of t a b)
-unfolding cell_lit
-cell_lit_lem k c o a b t u d g = rw g.at

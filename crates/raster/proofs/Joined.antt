@@ -1,17 +1,23 @@
 -- Bits of words joined with others, bytes of words, squares and bytes of masks. Assumes nothing.
-use Prim.Native.Nat.{ℕ, ◌+◌, ◌*◌, ◌-◌, ◌/◌, ◌%◌, ◌^◌, ◌≤◌, ◌<◌}
+use Prim.Native.Nat.{ℕ, zero, suc, ◌+◌, ◌*◌, ◌-◌, ◌/◌, ◌%◌, ◌^◌, ◌≤◌, ◌<◌}
 use mathlib.Core.Path.{◌≡◌, refl, sym, ap, ap₂, ◌∙◌}
-use mathlib.Core.Bool.{Bool, true, false, cond, ◌&&◌, ◌||◌, and-false, and-true, or-false, and_assoc, or_assoc}
+use mathlib.Core.Bool.{Bool, true, false, cond, ◌&&◌, ◌||◌, or-false, and_assoc, or_assoc}
 use mathlib.Core.List.{List}
 use native.Mathlib.Omega.{arith}
 use native.Mathlib.Numerals.{add-one}
-use borrow.Author.Tests.{lt-ltb, le-ltb, eq-eqb, ltb-true, ltb-false, eqb-true, eqb-false}
+use borrow.Author.Tests.{le-ltb, eq-eqb, ltb-true, ltb-false, eqb-true, eqb-false}
 use lib.Bits.{bit_or}
 use lib.Dec.{ltb, eqb}
 use lib.ListN.{length, get_or, set}
 use Rattle.refusal.proofs.Tests.{same_test, both, parts}
-use lib.Seq.{get_or-set_same, get_or-set_other}
-use Rattle.bitset.specs.Bits.{bit, marked}
+use Rattle.std.specs.Int.{to_le_bytes, from_le_bytes}
+use Rattle.std.proofs.Common.{w64, take, drop, inl, inr}
+use Rattle.std.proofs.lemmas.Bool.{cases_lt}
+use Rattle.std.proofs.lemmas.Nat.{le_bytes_8}
+use Rattle.std.proofs.lemmas.List.{get_or-take, get_or-drop, get_or_past}
+use Rattle.std.proofs.lemmas.Slice.{take-put_mid_below, between-put_mid, drop-put_mid}
+use borrow.Rule.Slice.PartMut.{put_mid}
+use Rattle.bitset.specs.Bits.{bit, marked, Bytes}
 use Rattle.bitset.proofs.Laws.{bit_zero, bit_past, bit_or_lem}
 use Rattle.walk.specs.Reach.{any_below}
 use Rattle.rows.specs.Rows.{lit}
@@ -92,9 +98,6 @@ bits_more F n x y h l f g p k =
         g (p % 8) (omega arith) ∙ ap F (omega arith)
     go false e = refl
 
-pub bits_all : (F : ℕ → Bool) (n x : ℕ) → n ≡ 8 → Bits n F x → (p : ℕ) → p < 64 → bit x p ≡ F p
-bits_all F n x e f p h = f p h ∙ ap (λ (b : Bool). b && F p) (lt-ltb (p / 8) n (omega arith))
-
 -- ---- squares
 
 pub square_none : (s : List ℕ) (slot square i : ℕ) → lit s i ≡ (lit s i || in_square 0 slot square i)
@@ -113,39 +116,73 @@ square_more s r q slot square n i f g =
 
 -- ---- a mask's bytes
 
--- one byte written
-pub marked-byte : (s : List ℕ) (i y c : ℕ) → i < length s → marked (set s i y) c ≡ cond (eqb (c / 8) i) (bit y (c % 8)) (marked s c)
+-- a word's bits, byte by byte
+le_bit : (v i r : ℕ) → i < 8 → r < 8 → bit (get_or (to_le_bytes w64 v) i 0) r ≡ bit v (8 * i + r)
+le_bit v zero r h k = bit_mod 8 v r k ∙ ap (bit v) (omega arith)
+le_bit v (suc zero) r h k = byte_cut v 8 r k
+le_bit v (suc (suc zero)) r h k = byte_cut v 16 r k
+le_bit v (suc (suc (suc zero))) r h k = byte_cut v 24 r k
+le_bit v (suc (suc (suc (suc zero)))) r h k = byte_cut v 32 r k
+le_bit v (suc (suc (suc (suc (suc zero))))) r h k = byte_cut v 40 r k
+le_bit v (suc (suc (suc (suc (suc (suc zero)))))) r h k = byte_cut v 48 r k
+le_bit v (suc (suc (suc (suc (suc (suc (suc zero))))))) r h k = byte_cut v 56 r k
+le_bit v (suc (suc (suc (suc (suc (suc (suc (suc i)))))))) r h k = absurd (omega arith)
+
+le_marked : (v j : ℕ) → j < 64 → marked (to_le_bytes w64 v) j ≡ bit v j
 unfolding marked
-marked-byte s i y c h = go (eqb (c / 8) i) refl
+le_marked v j h =
+    let e : 8 * (j / 8) + j % 8 ≡ j = omega arith in
+    le_bit v (j / 8) (j % 8) (omega arith) (omega arith) ∙ ap (bit v) e
+
+-- the marks of one block are those of its eight bytes
+block_marked : (s : List ℕ) (B j : ℕ) → j < 64 → marked (take 8 (drop (8 * B) s)) j ≡ marked s (64 * B + j)
+unfolding marked
+block_marked s B j h =
+    let e : 8 * B + j / 8 ≡ (64 * B + j) / 8 = omega arith in
+    let r : j % 8 ≡ (64 * B + j) % 8 = omega arith in
+    ap₂ bit (get_or-take 8 (drop (8 * B) s) (j / 8) 0 (omega arith) ∙ get_or-drop (8 * B) s (j / 8) 0 ∙ ap (λ (i : ℕ). get_or s i 0) e) r
+
+-- they are read as a word
+pub word_read : (s bs : List ℕ) (B v : ℕ) → bs ≡ take (8 * B + 8 - 8 * B) (drop (8 * B) s) → length bs ≡ 8 → Bytes s → v ≡ from_le_bytes w64 bs →
+    (j : ℕ) → j < 64 → bit v j ≡ marked s (64 * B + j)
+word_read s bs B v d l f g j h =
+    let eight : 8 * B + 8 - 8 * B ≡ 8 = omega arith in
+    let e : bs ≡ take 8 (drop (8 * B) s) = d ∙ ap (λ (n : ℕ). take n (drop (8 * B) s)) eight in
+    let small : Bytes bs = λ i. elim (cases_lt i 8) [
+      | inl k ↦ omega (arith, f (8 * B + i), ap (λ (r : List ℕ). get_or r i 0) e, get_or-take 8 (drop (8 * B) s) i 0 k, get_or-drop (8 * B) s i 0)
+      | inr k ↦ omega (arith, get_or_past bs i 0 (omega arith))
+    ] in
+    sym (le_marked v j h) ∙ ap (λ (r : List ℕ). marked r j) (le_bytes_8 bs v l small g ∙ e) ∙ block_marked s B j h
+
+-- and written as one
+pub word_written : (s bs : List ℕ) (B v : ℕ) → 8 * B + 8 ≤ length s → bs ≡ to_le_bytes w64 v →
+    (c : ℕ) → marked (put_mid (8 * B) (8 * B + 8 - 8 * B) s bs) c ≡ cond (eqb (c / 64) B) (bit v (c % 64)) (marked s c)
+unfolding marked
+word_written s bs B v l e c = go (eqb (c / 64) B) refl
   where
-    go : (b : Bool) → eqb (c / 8) i ≡ b → bit (get_or (set s i y) (c / 8) 0) (c % 8) ≡ cond b (bit y (c % 8)) (bit (get_or s (c / 8) 0) (c % 8))
-    go true e = rw (eqb-true (c / 8) i e, get_or-set_same s i y 0 h)
-    go false e = rw (get_or-set_other s i (c / 8) y 0 (eqb-false (c / 8) i e))
+    k : ℕ
+    k = 8 * B + 8 - 8 * B
 
--- the first n bytes of block B hold the word's bits, and the other cells are marked as before
-abbrev pub Stored : ℕ → ℕ → ℕ → List ℕ → List ℕ → Type 0
-Stored n B v s r = (c : ℕ) → marked r c ≡ cond (eqb (c / 64) B && ltb (c / 8 % 8) n) (bit v (c % 64)) (marked s c)
+    r : List ℕ
+    r = put_mid (8 * B) k s bs
 
-pub stored_none : (B v : ℕ) (s : List ℕ) → Stored 0 B v s s
-stored_none B v s c = sym (rw (le-ltb (c / 8 % 8) 0 (omega arith), and-false (eqb (c / 64) B)))
+    len : length bs ≡ 8
+    len = rw e refl
 
-pub stored_more : (n B v : ℕ) (s r : List ℕ) → n < 8 → 8 * B + n < length r → Stored n B v s r → Stored (n + 1) B v s (set r (8 * B + n) (v / 2 ^ (8 * n) % 256))
-stored_more n B v s r h l f c = marked-byte r (8 * B + n) (v / 2 ^ (8 * n) % 256) c l ∙ go (eqb (c / 8) (8 * B + n)) refl
-  where
-    t : ℕ → Bool
-    t m = eqb (c / 64) B && ltb (c / 8 % 8) m
-
-    go : (b : Bool) → eqb (c / 8) (8 * B + n) ≡ b → cond b (bit (v / 2 ^ (8 * n) % 256) (c % 8)) (marked r c) ≡ cond (t (n + 1)) (bit v (c % 64)) (marked s c)
-    go true e =
-        let q = eqb-true (c / 8) (8 * B + n) e in
-        let y : t (n + 1) ≡ true = both (eqb (c / 64) B) (ltb (c / 8 % 8) (n + 1)) (eq-eqb (c / 64) B (omega arith)) (lt-ltb (c / 8 % 8) (n + 1) (omega arith)) in
-        let p : 8 * n + c % 8 ≡ c % 64 = omega arith in
-        byte_cut v (8 * n) (c % 8) (omega arith) ∙ ap (bit v) p ∙ sym (ap (λ (x : Bool). cond x (bit v (c % 64)) (marked s c)) y)
-    go false e = f c ∙ ap (λ (x : Bool). cond x (bit v (c % 64)) (marked s c)) (same_test (t n) (t (n + 1))
-        (λ p. let q = parts (eqb (c / 64) B) (ltb (c / 8 % 8) n) p in both (eqb (c / 64) B) (ltb (c / 8 % 8) (n + 1)) q.0 (lt-ltb (c / 8 % 8) (n + 1) (omega (arith, ltb-true (c / 8 % 8) n q.1))))
-        (λ p. let q = parts (eqb (c / 64) B) (ltb (c / 8 % 8) (n + 1)) p in
-        both (eqb (c / 64) B) (ltb (c / 8 % 8) n) q.0 (lt-ltb (c / 8 % 8) n (omega (arith, ltb-true (c / 8 % 8) (n + 1) q.1, eqb-true (c / 64) B q.0, eqb-false (c / 8) (8 * B + n) e)))))
-
-pub stored_all : (n B v : ℕ) (s r : List ℕ) → n ≡ 8 → Stored n B v s r → (c : ℕ) → marked r c ≡ cond (eqb (c / 64) B) (bit v (c % 64)) (marked s c)
-stored_all n B v s r e f c =
-    f c ∙ ap (λ (x : Bool). cond x (bit v (c % 64)) (marked s c)) (ap (λ (b : Bool). eqb (c / 64) B && b) (lt-ltb (c / 8 % 8) n (omega arith)) ∙ and-true (eqb (c / 64) B))
+    go : (b : Bool) → eqb (c / 64) B ≡ b → marked r c ≡ cond b (bit v (c % 64)) (marked s c)
+    go true p =
+        let q = eqb-true (c / 64) B p in
+        let at : c ≡ 64 * B + c % 64 = omega arith in
+        let eight : 8 * B + 8 - 8 * B ≡ 8 = omega arith in
+        let part : take k (drop (8 * B) r) ≡ to_le_bytes w64 v = between-put_mid (8 * B) k s bs (8 * B + 8) (omega arith) (omega (arith, len)) ∙ e in
+        ap (marked r) at ∙ sym (block_marked r B (c % 64) (omega arith)) ∙ ap (λ (n : ℕ). marked (take n (drop (8 * B) r)) (c % 64)) (sym eight)
+        ∙ ap (λ (x : List ℕ). marked x (c % 64)) part ∙ le_marked v (c % 64) (omega arith)
+    go false p = ap (λ (x : ℕ). bit x (c % 8)) (elim (cases_lt (c / 8) (8 * B)) [
+      | inl h ↦ sym (get_or-take (8 * B) r (c / 8) 0 h) ∙ ap (λ (x : List ℕ). get_or x (c / 8) 0) (take-put_mid_below (8 * B) k s bs (8 * B) (omega arith) (omega arith))
+          ∙ get_or-take (8 * B) s (c / 8) 0 h
+      | inr h ↦
+          let m = c / 8 - (8 * B + 8) in
+          let at : 8 * B + 8 + m ≡ c / 8 = omega (arith, eqb-false (c / 64) B p) in
+          ap (λ (i : ℕ). get_or r i 0) (sym at) ∙ sym (get_or-drop (8 * B + 8) r m 0) ∙ ap (λ (x : List ℕ). get_or x m 0) (drop-put_mid (8 * B) k s bs (8 * B + 8) (omega arith) (omega arith) (omega (arith, len)))
+          ∙ get_or-drop (8 * B + 8) s m 0 ∙ ap (λ (i : ℕ). get_or s i 0) at
+    ])

@@ -3,3 +3,4 @@ pub mod Pieces
 pub mod Joined
 pub mod Answers
 pub mod Placed
+pub mod Located

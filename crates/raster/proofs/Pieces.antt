@@ -8,26 +8,43 @@ use native.Mathlib.Nat.{div-one, pow-suc}
 use borrow.Author.Tests.{lt-ltb, le-ltb, eq-eqb, ne_eqb, ltb-true, ltb-false, eqb-true, eqb-false}
 use lib.Dec.{ltb, eqb}
 use Rattle.cell.specs.declared.Kind.{Kind}
-use Rattle.cell.specs.Cell.{triangle_of, cells}
+use Rattle.cell.specs.Cell.{Triangle, triangle_of, number, cells}
 use Rattle.bitset.specs.Bits.{bit, marked}
 use Rattle.bitset.proofs.Laws.{bit_zero}
-use Rattle.rows.specs.Rows.{lit}
+use Rattle.mask.proofs.Laws.{level_shifted}
+use Rattle.rows.specs.Rows.{lit, octant_at, row_at, col_at}
 use Rattle.raster.specs.Raster.{cell_at}
 use Rattle.raster.specs.inside.Pieces.{piece, earlier, piece_size, piece_count, Added, Marked}
 use Rattle.raster.proofs.Held.{none_at, at_cong, at_union}
 
 -- ---- sizes
 
-pub small_size : (k : ℕ) → k < 3 → (piece_size k ≡ 1) × (piece_count k ≡ cells k)
-unfolding piece_size piece_count
-small_size k h = let e = lt-ltb k 3 h in (rw e, rw e)
+-- a piece of a level below 3 is a cell, and one of another level a block
+pub small_size : (k : ℕ) → k < 3 → piece_size k ≡ 1
+unfolding piece_size
+small_size k h = rw (lt-ltb k 3 h)
 
-pub block_size : (k : ℕ) → 3 ≤ k → (piece_size k ≡ 64) × (piece_count k ≡ cells (k - 3))
-unfolding piece_size piece_count
-block_size k h = let e = le-ltb k 3 h in (rw e, rw e)
+pub small_count : (k : ℕ) → k < 3 → piece_count k ≡ cells k
+unfolding piece_count
+small_count k h = rw (lt-ltb k 3 h)
+
+pub block_size : (k : ℕ) → 3 ≤ k → piece_size k ≡ 64
+unfolding piece_size
+block_size k h = rw (le-ltb k 3 h)
+
+pub block_count : (k : ℕ) → 3 ≤ k → piece_count k ≡ cells (k - 3)
+unfolding piece_count
+block_count k h = rw (le-ltb k 3 h)
+
+-- as the code shifts the count
+pub count_small : (k : ℕ) → k < 3 → 8 * 2 ^ (2 * k) % 2 ^ 32 ≡ piece_count k
+count_small k h = level_shifted 32 8 k (omega arith) (omega arith) ∙ sym (small_count k h)
+
+pub count_blocks : (k : ℕ) → 3 ≤ k → k ≤ 8 → 8 * 2 ^ (2 * (k - 3)) % 2 ^ 32 ≡ piece_count k
+count_blocks k h l = level_shifted 32 8 (k - 3) (omega arith) (omega arith) ∙ sym (block_count k h)
 
 -- a level has 64 cells for each one three levels above
-sixty_four : (k : ℕ) → 3 ≤ k → 4 ^ k ≡ 64 * 4 ^ (k - 3)
+pub sixty_four : (k : ℕ) → 3 ≤ k → 4 ^ k ≡ 64 * 4 ^ (k - 3)
 sixty_four k h =
     let m = k - 3 in
     let e : k ≡ suc (suc (suc m)) = omega arith in
@@ -37,23 +54,11 @@ piece_below : (k c : ℕ) → c < cells k → c / piece_size k < piece_count k
 piece_below k c h = go (ltb k 3) refl
   where
     go : (b : Bool) → ltb k 3 ≡ b → c / piece_size k < piece_count k
-    go true e = let s = small_size k (ltb-true k 3 e) in rw (s.0, s.1) (omega arith)
-    go false e = let s = block_size k (ltb-false k 3 e) in rw (s.0, s.1) (omega (arith, sixty_four k (ltb-false k 3 e)))
-
--- a piece of a level below 3 is a cell, and one of another level a block, whose eight bytes a mask has
-pub cell_piece : (k n : ℕ) → k < 3 → n < piece_count k → n < cells k
-cell_piece k n h l = rw (small_size k h).1 at l
-
-pub block_piece : (k n b : ℕ) → 3 ≤ k → n < piece_count k → b ≡ 4 ^ k → (n < cells (k - 3)) × (8 * n + 8 ≤ b)
-block_piece k n b h l e =
-    let m : n < cells (k - 3) = rw (block_size k h).1 at l in
-    (m, omega (arith, sixty_four k h))
-
-pub of_cells : (k n : ℕ) (A : ℕ → Bool) (c : ℕ) → k < 3 → piece 1 n A c ≡ piece (piece_size k) n A c
-of_cells k n A c h = ap (λ (z : ℕ). piece z n A c) (sym (small_size k h).0)
+    go true e = let l = ltb-true k 3 e in rw (small_size k l, small_count k l) (omega arith)
+    go false e = let l = ltb-false k 3 e in rw (block_size k l, block_count k l) (omega (arith, sixty_four k l))
 
 pub of_blocks : (k n : ℕ) (A : ℕ → Bool) (c : ℕ) → 3 ≤ k → piece 64 n A c ≡ piece (piece_size k) n A c
-of_blocks k n A c h = ap (λ (z : ℕ). piece z n A c) (sym (block_size k h).0)
+of_blocks k n A c h = ap (λ (z : ℕ). piece z n A c) (sym (block_size k h))
 
 -- ---- sets
 
@@ -134,6 +139,11 @@ no_cell n A e c = rw (div-one c) (go (eqb c n) refl)
     go true p = rw (eqb-true c n p) e
     go false p = refl
 
+-- it adds nothing where the cell is not in the set
+pub no_spot : (kind : ℕ → ℕ → Triangle) (k n : ℕ) (A : ℕ → Bool) (i : ℕ) → A n ≡ false → cell_at kind k (piece 1 n A) i ≡ false
+unfolding cell_at
+no_spot kind k n A i e = rw (no_cell n A e (number k (octant_at i, kind (row_at i) (col_at i)))) (and-false _)
+
 -- ---- pieces of 64 cells
 
 -- a word that has the bits of a set has the cells of its piece
@@ -149,6 +159,14 @@ word_cells n v A f c = go (eqb (c / 64) n) refl
 pub no_cells : (n v c : ℕ) → v ≡ 0 → piece 64 n (λ d. bit v (d % 64)) c ≡ false
 unfolding piece
 no_cells n v c e = ap (λ (b : Bool). eqb (c / 64) n && b) (ap (λ (x : ℕ). bit x (c % 64)) e ∙ bit_zero (c % 64)) ∙ and-false (eqb (c / 64) n)
+
+-- where the word is 0 the piece adds no spot
+pub no_word_spots : (kind : ℕ → ℕ → Triangle) (k n v : ℕ) (A : ℕ → Bool) (i : ℕ) → ((j : ℕ) → j < 64 → bit v j ≡ A (64 * n + j)) → v ≡ 0 →
+    cell_at kind k (piece 64 n A) i ≡ false
+unfolding cell_at
+no_word_spots kind k n v A i f e =
+    let c = number k (octant_at i, kind (row_at i) (col_at i)) in
+    rw (sym (word_cells n v A f c) ∙ no_cells n v c e) (and-false _)
 
 -- a piece whose cells are not marked, written
 pub word_stored : (n v : ℕ) (A : ℕ → Bool) (s r : List ℕ) → ((j : ℕ) → j < 64 → bit v j ≡ A (64 * n + j)) → ((c : ℕ) → c / 64 ≡ n → marked s c ≡ false) →

@@ -41,7 +41,7 @@ abbrev pub square_of : ℕ → ℕ → Kind → ℕ
 square_of x y Up = x
 square_of x y Down = y
 
-triangle_lit_lem : (u d : List ℕ) (o : ℕ) (s : Kind) (a b : ℕ) → triangle_lit u d o (triangle_of s a b) ≡ lit (rows_of u d s) (spot o a b)
+pub triangle_lit_lem : (u d : List ℕ) (o : ℕ) (s : Kind) (a b : ℕ) → triangle_lit u d o (triangle_of s a b) ≡ lit (rows_of u d s) (spot o a b)
 unfolding triangle_lit
 triangle_lit_lem u d o Up a b = refl
 triangle_lit_lem u d o Down a b = refl

@@ -1,15 +1,15 @@
-// Masks as rows of bits, and back: up cells in one set of rows, down cells in another. A mask is a slice beside its level, with its length in the
-// contracts, as callers of the C interface lend it.
+// Masks as rows of bits, and back: up cells in one set of rows, down cells in another.
 #![tactic(auto)]
 
-ghost use Rattle.std.specs.Prelude.{◌≡◌, false, cond, ℕ, ◌/◌, ◌^◌, ◌<◌, length};
+ghost use Rattle.std.specs.Prelude.{◌≡◌, false, cond, ℕ, ◌/◌, ◌^◌, ◌<◌};
 ghost use Rattle.bitset.specs.Bits.{marked, bytes_of};
 ghost use Rattle.cell.specs.Cell.{Triangle};
 ghost use Rattle.rows.specs.Rows.{lit};
 ghost use Rattle.raster.specs.Raster.{is_mask, cell_at, cell_lit};
 ghost use Rattle.raster.specs.inside.Pieces.{piece_size, piece_count, piece, Added, Marked};
 
-use mask::MaskLevel;
+use blocks::Block;
+use mask::{Mask, MaskCell, MaskLevel, MaskMut};
 use rows::CellRows;
 
 mod blocks;
@@ -18,6 +18,7 @@ mod masks;
 mod words;
 
 // How many pieces a level's cells are taken in.
+#[tactic(auto, using(crate::proofs::Pieces::count_small, crate::proofs::Pieces::count_blocks))]
 fn piece_count(level: MaskLevel) -> u32
     ensures { result ≡ piece_count level.k }
 {
@@ -29,33 +30,36 @@ fn piece_count(level: MaskLevel) -> u32
 }
 
 // Sets the spots of the marked cells of one piece.
-fn put_piece(level: MaskLevel, n: u32, mask: &[u8], rows: &mut CellRows)
-    requires { (n < piece_count level.k) × (length mask.now ≡ 4 ^ level.k) }
-    ensures ups { Added Triangle.up level.k (piece (piece_size level.k) n (marked mask.now)) rows.old.up rows.new.up }
-    ensures downs { Added Triangle.down level.k (piece (piece_size level.k) n (marked mask.now)) rows.old.down rows.new.down }
+#[tactic(auto, using(crate::proofs::Pieces::small_size, crate::proofs::Pieces::small_count, crate::proofs::Pieces::block_count, crate::proofs::Pieces::block_size, crate::proofs::Pieces::sixty_four, crate::proofs::Pieces::no_word_spots))]
+fn put_piece(mask: Mask<'_>, n: u32, rows: &mut CellRows)
+    requires { n < piece_count mask.level.k }
+    ensures ups { Added Triangle.up mask.entry.level.k (piece (piece_size mask.entry.level.k) n (marked mask.entry.bytes.now)) rows.old.up rows.new.up }
+    ensures downs { Added Triangle.down mask.entry.level.k (piece (piece_size mask.entry.level.k) n (marked mask.entry.bytes.now)) rows.old.down rows.new.down }
 {
+    let Mask { level, bytes } = mask;
     if level.k < 3 {
-        cells::put_marked(level, n, mask, rows);
+        cells::put_marked(MaskCell { level, number: n }, bytes, rows);
     } else {
-        let word = masks::word_at(mask, n);
-        if word != 0 {
-            blocks::put_block(level, n, word, rows);
+        let word = masks::word_at(bytes, n);
+        let has_marks = word != 0;
+        if has_marks {
+            blocks::put_block(Block { level, number: n }, word, rows);
         }
     }
 }
 
 // Sets the spots of all marked cells.
-fn put_pieces(level: MaskLevel, mask: &[u8], rows: &mut CellRows)
-    requires { length mask.now ≡ 4 ^ level.k }
-    ensures ups { Added Triangle.up level.k (marked mask.now) rows.old.up rows.new.up }
-    ensures downs { Added Triangle.down level.k (marked mask.now) rows.old.down rows.new.down }
+fn put_pieces(mask: Mask<'_>, rows: &mut CellRows)
+    ensures ups { Added Triangle.up mask.entry.level.k (marked mask.entry.bytes.now) rows.old.up rows.new.up }
+    ensures downs { Added Triangle.down mask.entry.level.k (marked mask.entry.bytes.now) rows.old.down rows.new.down }
 {
-    for n in 0..piece_count(level) {
-        put_piece(level, n, mask, rows);
+    for n in 0..piece_count(mask.level) {
+        put_piece(mask, n, rows);
     }
 }
 
 // The cells that a mask of the level marks, each at its spot in the rows of its kind. Where the slice is no mask of the level, nothing is written.
+#[tactic(auto, using(crate::proofs::Answers::ok_is))]
 pub fn to_rows(level: u32, mask: &[u8], rows: &mut CellRows)
     ensures ups { (i : ℕ) → lit rows.new.up i
         ≡ cond (is_mask level mask.now) (cell_at Triangle.up level (marked mask.now) i) (lit rows.old.up i) }
@@ -65,40 +69,45 @@ pub fn to_rows(level: u32, mask: &[u8], rows: &mut CellRows)
     if mask::is_mask(level, mask).is_ok() {
         rows.up = [0; rows::WORDS];
         rows.down = [0; rows::WORDS];
-        put_pieces(MaskLevel { k: level }, mask, rows);
+        let level = MaskLevel { k: level };
+        put_pieces(Mask { level, bytes: mask }, rows);
     }
 }
 
 // Marks the cells of one piece whose spots are set.
-fn take_piece(level: MaskLevel, n: u32, rows: &CellRows, mask: &mut [u8])
-    requires in_mask { (n < piece_count level.k) × (length mask.old ≡ 4 ^ level.k) }
-    requires by_index { (c : ℕ) → c / piece_size level.k ≡ n → marked mask.old c ≡ false }
-    ensures { Marked (piece (piece_size level.k) n (cell_lit level.k rows.now.up rows.now.down)) mask.old mask.new }
+#[tactic(auto, using(crate::proofs::Pieces::small_size, crate::proofs::Pieces::small_count, crate::proofs::Pieces::block_count, crate::proofs::Pieces::sixty_four))]
+fn take_piece(mask: MaskMut<'_>, n: u32, rows: &CellRows)
+    requires in_mask { n < piece_count mask.level.k }
+    requires by_index { (c : ℕ) → c / piece_size mask.level.k ≡ n → marked mask.bytes.now c ≡ false }
+    ensures { Marked (piece (piece_size mask.entry.level.k) n (cell_lit mask.entry.level.k rows.now.up rows.now.down)) mask.entry.bytes.now mask.exit.0.now }
 {
+    let MaskMut { bytes, level } = mask;
     if level.k < 3 {
-        cells::take_cell(level, n, rows, mask);
+        cells::take_cell(MaskCell { level, number: n }, rows, bytes);
     } else {
-        masks::store_word(mask, n, blocks::block_at(level, n, rows));
+        masks::store_word(bytes, n, blocks::block_at(Block { level, number: n }, rows));
     }
 }
 
 // Marks exactly the cells whose spots are set.
-fn take_pieces(level: MaskLevel, rows: &CellRows, mask: &mut [u8])
-    requires { length mask.old ≡ 4 ^ level.k }
-    ensures { mask.new ≡ bytes_of (4 ^ level.k) (cell_lit level.k rows.now.up rows.now.down) }
+fn take_pieces(mask: MaskMut<'_>, rows: &CellRows)
+    ensures { mask.exit.0.now ≡ bytes_of (4 ^ mask.entry.level.k) (cell_lit mask.entry.level.k rows.now.up rows.now.down) }
 {
-    bitset::clear(mask);
+    let MaskMut { bytes, level } = mask;
+    bitset::clear(bytes);
     for n in 0..piece_count(level) {
-        take_piece(level, n, rows, mask);
+        take_piece(MaskMut { bytes, level }, n, rows);
     }
 }
 
 // The mask of the level that marks the cells whose spots are set. Where the slice is no mask of the level, nothing is written.
+#[tactic(auto, using(crate::proofs::Answers::ok_is))]
 pub fn from_rows(level: u32, rows: &CellRows, mask: &mut [u8])
     ensures { mask.new
         ≡ cond (is_mask level mask.old) (bytes_of (4 ^ level) (cell_lit level rows.now.up rows.now.down)) mask.old }
 {
     if mask::is_mask(level, mask).is_ok() {
-        take_pieces(MaskLevel { k: level }, rows, mask);
+        let level = MaskLevel { k: level };
+        take_pieces(MaskMut { bytes: mask, level }, rows);
     }
 }

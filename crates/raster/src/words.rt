@@ -6,7 +6,15 @@ ghost use Rattle.raster.specs.inside.Squares.{byte_count, in_square};
 
 use rows::Rows;
 
+// Where a square lies in rows: the byte of them all at which its first row stands, and seven bytes 40 apart follow.
+#[derive(Clone, Copy)]
+pub(crate) struct Slot {
+    pub(crate) byte: u32,
+    ghost inside: { byte + 280 < byte_count },
+}
+
 // Joins the bits of one byte of a row: byte `slot` of all.
+#[tactic(auto, using(crate::proofs::Joined::lit_byte))]
 fn join_byte(words: &mut Rows, slot: u32, byte: u64)
     requires { (slot < byte_count) × (byte < 256) }
     ensures { (i : ℕ) →
@@ -16,17 +24,18 @@ fn join_byte(words: &mut Rows, slot: u32, byte: u64)
     words[at] |= byte << (8 * (slot % 8));
 }
 
-// Joins a square, of which byte `slot` is the first row.
-pub(crate) fn join_square(words: &mut Rows, slot: u32, square: u64)
-    requires { slot + 280 < byte_count }
-    ensures { (i : ℕ) → lit words.new i ≡ (lit words.old i || in_square 8 slot square i) }
+// Joins a square.
+#[tactic(auto, using(crate::proofs::Joined::square_none, crate::proofs::Joined::square_more))]
+pub(crate) fn join_square(words: &mut Rows, slot: Slot, square: u64)
+    ensures { (i : ℕ) → lit words.new i ≡ (lit words.old i || in_square 8 slot.byte square i) }
 {
     for x in 0..8 {
-        join_byte(words, slot + 40 * x, (square >> (8 * x)) % 256);
+        join_byte(words, slot.byte + 40 * x, (square >> (8 * x)) % 256);
     }
 }
 
 // One byte of a row.
+#[tactic(auto, using(crate::proofs::Joined::byte_read))]
 fn byte_at(words: &Rows, slot: u32) -> u64
     requires { slot < byte_count }
     ensures small { result < 256 }
@@ -36,14 +45,13 @@ fn byte_at(words: &Rows, slot: u32) -> u64
     (words[at] >> (8 * (slot % 8))) % 256
 }
 
-// A square, of which byte `slot` is the first row.
-pub(crate) fn square_at(words: &Rows, slot: u32) -> u64
-    requires { slot + 280 < byte_count }
-    ensures { (p : ℕ) → p < 64 → bit result p ≡ lit words.now (8 * (slot + 40 * (p / 8)) + p % 8) }
+// A square.
+pub(crate) fn square_at(words: &Rows, slot: Slot) -> u64
+    ensures { (p : ℕ) → p < 64 → bit result p ≡ lit words.now (8 * (slot.byte + 40 * (p / 8)) + p % 8) }
 {
     let mut square = 0;
     for x in 0..8 {
-        square |= byte_at(words, slot + 40 * x) << (8 * x);
+        square |= byte_at(words, slot.byte + 40 * x) << (8 * x);
     }
     square
 }

@@ -1,15 +1,12 @@
 -- What follows from an answer, once for every call: a given answer passed every test; a refused one has the number of the first test that
 -- applies, and leaves the slices; and a call whose tests begin with another's is refused where that one is. Assumes nothing.
 use Prim.Native.Nat.{ℕ}
-use mathlib.Core.Path.{◌≡◌, refl, sym, ap, ◌∙◌}
+use mathlib.Core.Path.{◌≡◌, refl, sym, ap}
 use mathlib.Core.Bool.{true, false}
 use mathlib.Core.List.{List, [], ◌∷◌, ◌++◌}
 use mathlib.Core.Logic.{inl, inr}
 use native.Mathlib.Omega.{arith}
-use borrow.Author.Tests.{eq-eqb, ne_eqb}
-use lib.ListN.{length}
 use Rattle.refusal.specs.Answer.{Answer, given, refused, Test, ◌when◌, in_order, lending, First}
-use Rattle.refusal.specs.Tests.{bad_length}
 use Rattle.refusal.proofs.Tests.{clash}
 
 -- ---- a value is no refusal
@@ -42,10 +39,6 @@ passed [] a b e = (tt, given_same (sym e))
 passed ((n when true) ∷ ts) a b e = given≢refused e
 passed ((n when false) ∷ ts) a b e = let r = passed ts a b e in ((refl, r.0), r.1)
 
--- so a call with the same tests, whose value is one of that value
-pub given_by : {A B : Type 0} (f : A → B) (ts : List Test) (a b : A) → given b ≡ in_order ts a → given (f b) ≡ in_order ts (f a)
-given_by {A} f ts a b e = let t = passed ts a b e in ap {A = A} (λ x. given (f x)) (sym t.1) ∙ gives ts (f a) t.0
-
 -- a refusal is by the first test that applies
 pub refuses : {A : Type 0} (ts : List Test) (a : A) (n : ℕ) → First n ts → refused n ≡ in_order ts a
 refuses [] a n f = absurd f
@@ -76,13 +69,6 @@ tests_left ((m when false) ∷ ts) us a c b e = tests_left ts us a c b e
 -- where some tests were passed, those after them decide
 pub passed_on : {A : Type 0} (ts us : List Test) (a : A) → Passed ts → in_order us a ≡ in_order (ts ++ us) a
 passed_on ts us a p = tests_left ts us a a a (gives ts a p)
-
--- the test of a slice's length refuses by 5, or leaves it to the next
-pub length_refused : {A B : Type 0} (size : ℕ) (s : List B) (us : List Test) (a : A) → (length s ≡ size → ⊥) → refused 5 ≡ in_order (bad_length size s ∷ us) a
-length_refused size s us a n = rw (ne_eqb (length s) size n)
-
-pub length_passed : {A B : Type 0} (size : ℕ) (s : List B) (us : List Test) (a : A) → length s ≡ size → in_order us a ≡ in_order (bad_length size s ∷ us) a
-length_passed size s us a e = rw (eq-eqb (length s) size e)
 
 -- ---- slices that are lent
 

@@ -18,7 +18,7 @@ use Rattle.cell.specs.Cell.{cells}
 use Rattle.mask.specs.Mask.{max_mask_level, count_call}
 use Rattle.grow.specs.Grow.{grown_cells, bad_rings, ring_tests, grow_call}
 use Rattle.grow.proofs.Answers.{grown_bytes}
-use Rattle.ring_counter.specs.RingCounter.{input_bytes, counts, ring_counts, line, output}
+use Rattle.ring_counter.specs.RingCounter.{input_bytes, counts, ring_counts, line, output, front_bytes}
 
 -- a mask of level 5 is counted
 pub counted : (a : List ℕ) → length a ≡ 1024 → count_call 5 a ≡ given (size (cells 5) (marked a))
@@ -53,3 +53,7 @@ front_decides n input h = ap line (go (leb (length input) n) refl)
         let l = leb-false (length input) n e in
         let t : length (take n input) ≡ input_bytes → ⊥ = λ q. omega (arith, simp length-take at q) in
         rw (ne_eqb (length (take n input)) input_bytes t, ne_eqb (length input) input_bytes (omega arith))
+
+-- so the bytes that are read
+pub front_read : (input : List ℕ) → output (take front_bytes input) ≡ output input
+front_read input = front_decides front_bytes input (omega arith)

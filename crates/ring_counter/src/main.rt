@@ -28,6 +28,7 @@ const STDOUT: i32 = 1;
 fn grown_counts(rings: u8, mask: &[u8; 1024]) -> Result<(u32, u32), Refusal>
     ensures { said result ≡ in_order (bad_rings rings ∷ []) (counts rings mask.now) }
 {
+    // Fixed memory: the mask written and the working mask. The mask read is the third buffer.
     let mut grown = [0u8; 1024];
     let mut work = [0u8; 1024];
     grow::grow(LEVEL, u32::from(rings), mask, &mut grown, &mut work)?;
@@ -72,7 +73,10 @@ fn output_of(input: &[u8], out: &mut [u8; 64]) -> usize
     put_line(outcome_of(input), out)
 }
 
-// The same for every input of which `front` holds the first bytes, n of them: all of it, or as many as are read.
+// The same for every input of which `front` holds the first bytes, n of them: all of it, or as many as are read. The buffer comes whole, since its length is
+// in the claim. The cell lister has such a function too, and they stay two: a shared one would take the program's whole claim (`output`) and the buffer's
+// length as parameters, for a body of one call.
+#[tactic(auto, using(crate::proofs::Laws::front_read))]
 fn output_of_front(front: &[u8], n: usize, out: &mut [u8; 64]) -> usize
     requires { (length front.now ≡ front_bytes) × (n ≤ front_bytes) }
     ensures fits { IsPrefixLen result out.new }

@@ -5,7 +5,7 @@ use mathlib.Core.Bool.{Bool, true, false, cond, ◌&&◌, ◌||◌, or-false}
 use mathlib.Core.List.{List}
 use native.Mathlib.Nat.{mul-add-mod_self_right, div-div-eq-div-mul, add-zero, mul-div_cancel}
 use native.Mathlib.Omega.{arith}
-use borrow.Author.Tests.{eq-eqb, lt-ltb, le-ltb, eqb-true, eqb-false}
+use borrow.Author.Tests.{eq-eqb, lt-ltb, eqb-true, eqb-false}
 use lib.Bits.{bit_and, bit_or, and_step, and_shr}
 use lib.Dec.{ltb, eqb}
 use lib.ListN.{length, get_or, set, replicate, get_or-eq_default}
@@ -118,11 +118,4 @@ set_here b i p h = ap (λ (x : Bool). b || x) (go (eqb i p) refl)
   where
     go : (x : Bool) → eqb i p ≡ x → (x && ltb i spot_count) ≡ x
     go true e = let q = eqb-true i p e in lt-ltb i spot_count (omega arith)
-    go false e = refl
-
-pub set_past : (b : Bool) (i p : ℕ) → spot_count ≤ p → (b || (eqb i p && ltb i spot_count)) ≡ b
-set_past b i p h = ap (λ (x : Bool). b || x) (go (eqb i p) refl) ∙ or-false b
-  where
-    go : (x : Bool) → eqb i p ≡ x → (x && ltb i spot_count) ≡ false
-    go true e = let q = eqb-true i p e in le-ltb i spot_count (omega arith)
     go false e = refl

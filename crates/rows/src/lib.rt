@@ -1,10 +1,12 @@
 // Rows of bits, in which the cells and the points of a level are grown and filled: how they lie in words, and one bit, one word at a time.
 #![tactic(auto)]
 
-ghost use Rattle.std.specs.Prelude.{◌≡◌, ◌&&◌, ◌||◌, ℕ, ltb, eqb, get_or};
-ghost use Rattle.rows.specs.Rows.{lit, spot_count, spot_in};
-ghost use Rattle.code.specs.Step.{east};
-ghost use Rattle.rows.specs.Words.{OneOn, OneBack};
+ghost use Rattle.std.specs.Prelude.{◌≡◌, ◌<◌, ◌≤◌, ◌&&◌, ◌||◌, ℕ, ltb, eqb, get_or};
+ghost use Rattle.rows.specs.Rows.{lit, spot_count, spot_in, first_word, cells_end};
+ghost use Rattle.rows.specs.Words.{WordOf, with_next, OneOn, OneBack};
+
+// Whoever joins octants by their rows finds the next one here too.
+pub use code::east;
 
 // The words of one set of rows: 2,066 rows of five words.
 pub const WORDS: usize = 10330;
@@ -12,7 +14,8 @@ pub const WORDS: usize = 10330;
 // One set of rows.
 pub type Rows = [u64; WORDS];
 
-// Cells in rows: up cells in one set of rows, down cells in another.
+// Cells in rows: up cells in one set of rows, down cells in another. Made by a literal where it is needed, since a function that returned it could copy
+// 165 kB on the stack.
 #[derive(Drop)]
 pub struct CellRows {
     pub up: Rows,
@@ -34,6 +37,14 @@ pub const FIRST: usize = 10;
 // The word after the last in which a cell lies.
 pub const CELLS_END: usize = 10320;
 
+// A word in which cells lie, by its place.
+#[derive(Clone, Copy)]
+pub struct CellWord {
+    pub at: usize,
+    ghost first: { first_word ≤ at },
+    ghost last: { at < cells_end },
+}
+
 // The number of octants.
 pub const OCTANTS: u32 = 8;
 
@@ -46,13 +57,6 @@ pub fn spot_of(octant: u32, row: u32, col: u32) -> u32
         return SPOTS;
     }
     (OCTANT_ROWS * octant + row + 2) * ROW_SPOTS + col
-}
-
-// The octant to the east.
-pub fn east(octant: u32) -> u32
-    ensures { result ≡ east octant }
-{
-    octant / 4 * 4 + (octant % 4 + 1) % 4
 }
 
 // Whether a bit is set. Past the end none is.
@@ -95,4 +99,16 @@ pub fn one_back(word: u64, after: u64) -> u64
     ensures { OneBack word after result }
 {
     word >> 1 | after << 63
+}
+
+// One word of a set with the one a row on and the one a place on: the up cells that have these points for corners, and the down cells that have these up
+// cells for neighbours.
+pub fn with_next(rows: &Rows, word: CellWord) -> u64
+    ensures { WordOf result (with_next (lit rows.now)) word.at }
+{
+    let at = word.at;
+    let here = rows[at];
+    let next = rows[at + 5];
+    let back = one_back(here, rows[at + 1]);
+    here | (next | back)
 }

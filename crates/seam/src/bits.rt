@@ -5,7 +5,8 @@ ghost use Rattle.seam.specs.inside.Pairs.{join_pair};
 
 use rows::Rows;
 
-// Sets both of two bits where one of them is set.
+// Sets both of two bits where one of them is set. A spot stays a number with its bound, since `rows::spot_of` also answers the first spot past all bits.
+#[tactic(auto, using(crate::proofs::Lights::first_lit, crate::proofs::Lights::second_lit, crate::proofs::Lights::none_lit))]
 pub(crate) fn join_bits(points: &mut Rows, first: u32, second: u32)
     requires { (first < spot_count) × (second < spot_count) }
     ensures { lit points.new ≡ join_pair first second (lit points.old) }

@@ -49,6 +49,7 @@ impl Group {
     }
 
     // The two spots of one pair.
+    #[tactic(auto, using(rows::proofs::Spots::spot_told), unfolding(crate::specs::inside::Pairs::first_of, crate::specs::inside::Pairs::second_of, crate::specs::inside::Pairs::count_of, code::specs::Step::east))]
     fn spots(self, pair: u32) -> (u32, u32)
         requires { pair < count_of self.edge self.size }
         ensures first { (result.0 ≡ first_of self.edge self.size pair) × (result.0 < spot_count) }
@@ -91,6 +92,7 @@ impl Group {
     }
 
     // Joins its pairs, one after the other.
+    #[tactic(auto, unfolding(crate::specs::inside::Pairs::join_pairs))]
     pub(crate) fn join(self, points: &mut Rows)
         ensures { lit points.new ≡ join_pairs (first_of self.edge self.size) (second_of self.edge self.size) (count_of self.edge self.size) (lit points.old) }
     {

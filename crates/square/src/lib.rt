@@ -17,6 +17,7 @@ pub struct Squares {
 }
 
 // Exchanges bits `shift` apart: those of `low` with those above them.
+#[tactic(auto, unfolding(crate::specs::inside::Words::value))]
 fn exchange(square: u64, shift: u32, low: u64) -> u64
     requires { shift < 64 }
     ensures { result ≡ value (one square) (exchanged shift low (input 0)) }
@@ -26,6 +27,7 @@ fn exchange(square: u64, shift: u32, low: u64) -> u64
 }
 
 // A square in quarters, in rows.
+#[tactic(auto, using(crate::proofs::Seats::rows_bits), unfolding(crate::specs::inside::Words::value))]
 pub fn in_rows(square: u64) -> u64
     ensures { (p : ℕ) → p < 64 → bit result p ≡ bit square (quarter_of p) }
 {
@@ -35,6 +37,7 @@ pub fn in_rows(square: u64) -> u64
 }
 
 // A square in rows, in quarters.
+#[tactic(auto, using(crate::proofs::Seats::quarters_bits), unfolding(crate::specs::inside::Words::value))]
 pub fn in_quarters(square: u64) -> u64
     ensures { (p : ℕ) → p < 64 → bit result (quarter_of p) ≡ bit square p }
 {
@@ -45,6 +48,7 @@ pub fn in_quarters(square: u64) -> u64
 
 // The places of the cells of one kind in an up block and in a down block, from those in fours that are up cells and in fours that are down cells:
 // by sixteens, and all.
+#[tactic(auto, unfolding(crate::specs::inside::Words::value))]
 fn scatter_fours(up: u64, down: u64) -> (u64, u64)
     ensures in_up { result.0 ≡ value (two up down) (block_up (input 0) (input 1)) }
     ensures in_down { result.1 ≡ value (two up down) (block_down (input 0) (input 1)) }
@@ -61,6 +65,7 @@ fn scatter_fours(up: u64, down: u64) -> (u64, u64)
 }
 
 // The cells of a block, each at its place in a square: by fours, and from these all.
+#[tactic(auto, using(crate::proofs::Seats::scatter_bits), unfolding(crate::specs::inside::Words::value))]
 pub fn scatter(word: u64) -> Squares
     ensures { Scattered word (squares result.up_in_up result.down_in_up result.up_in_down result.down_in_down) }
 {
@@ -77,6 +82,7 @@ pub fn scatter(word: u64) -> Squares
 }
 
 // The places of the cells of one kind in fours that are up cells and in fours that are down cells, from those in an up block and in a down block.
+#[tactic(auto, unfolding(crate::specs::inside::Words::value))]
 fn gather_fours(in_up: u64, in_down: u64) -> (u64, u64)
     ensures up { result.0 ≡ value (two in_up in_down) (up_four (input 0) (input 1)) }
     ensures down { result.1 ≡ value (two in_up in_down) (down_four (input 0) (input 1)) }
@@ -92,7 +98,9 @@ fn gather_fours(in_up: u64, in_down: u64) -> (u64, u64)
     (up, down)
 }
 
-// The cells of a block from their places in squares in quarters: two of an up block, or two of a down block.
+// The cells of a block from their places in squares in quarters: two of an up block, or two of a down block. Four words and no `Squares`: two of them are 0,
+// and the call shows which.
+#[tactic(auto, using(crate::proofs::Seats::gather_bits), unfolding(crate::specs::inside::Words::value))]
 pub fn gather(up_in_up: u64, down_in_up: u64, up_in_down: u64, down_in_down: u64) -> u64
     ensures { Gathered (squares up_in_up down_in_up up_in_down down_in_down) result }
 {

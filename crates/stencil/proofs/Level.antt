@@ -7,11 +7,10 @@ use native.Mathlib.Nat.{pow-suc}
 use native.Mathlib.Omega.{arith}
 use borrow.Author.Tests.{ltb-true, ltb-false, leb-true, le-leb, lt-leb, lt-ltb, le-ltb}
 use lib.Dec.{leb, ltb}
-use lib.ListN.{length}
 use lib.Pow.{pow_pos}
 use Rattle.refusal.proofs.Tests.{same_test}
 use Rattle.bitset.specs.Bits.{bit, bits_of}
-use Rattle.bitset.proofs.Laws.{bit_zero, bit_past, bit_bits_of}
+use Rattle.bitset.proofs.Laws.{bit_zero, bit_past, bit_bits_of, shifted}
 use Rattle.rows.specs.Rows.{lit, word_count, spot_count, first_word, octant_at, row_at, col_at, inside}
 use Rattle.rows.proofs.Words.{lit_past}
 use Rattle.rows.specs.Words.{WordOf}
@@ -32,6 +31,13 @@ ones_bits n j = go (ltb j n) refl
         let q : 2 ^ n - 1 ≡ bits_of n (λ j. true) = omega (arith, all_ones n) in
         ap (λ (x : ℕ). bit x j) q ∙ bit_bits_of n (λ j. true) j (ltb-true j n e)
     go false e = bit_past n (2 ^ n - 1) j (omega (arith, pow_pos n)) (ltb-false j n e)
+
+-- as the code makes them
+pub ones_all : (n j : ℕ) → 64 ≤ n → j < 64 → bit (2 ^ 64 - 1) j ≡ ltb j n
+ones_all n j h l = ones_bits 64 j ∙ lt-ltb j 64 l ∙ sym (lt-ltb j n (omega arith))
+
+pub ones_some : (n j : ℕ) → n < 64 → bit (1 * 2 ^ n % 2 ^ 64 - 1) j ≡ ltb j n
+ones_some n j h = rw (shifted 64 n h) (ones_bits n j)
 
 -- ---- the points of a level
 
@@ -82,11 +88,11 @@ unfolding inside
 past_rows k i h = rw (le-leb 640 i (omega arith), le-ltb (octant_at i) 8 (omega arith))
 
 -- all words written hold all points
-pub all_written : (k : ℕ) {s₀ s : List ℕ} → length s ≡ word_count → Written 0 word_count (inside k) s₀ s → (i : ℕ) → lit s i ≡ inside k i
-all_written k {s₀} {s} n g i = go (ltb i spot_count) refl
+pub all_written : (k : ℕ) {s₀ s : List ℕ} → Written 0 word_count (inside k) s₀ s → (i : ℕ) → lit s i ≡ inside k i
+all_written k {s₀} {s} g i = go (ltb i spot_count) refl
   where
     go : (b : Bool) → ltb i spot_count ≡ b → lit s i ≡ inside k i
     go true e = g.bits i ∙ rw (le-leb 0 i (omega arith), e)
     go false e =
         let h = ltb-false i spot_count e in
-        lit_past s i (omega arith) ∙ sym (past_rows k i h)
+        lit_past s i (omega (arith, g.long)) ∙ sym (past_rows k i h)

@@ -6,14 +6,14 @@ ghost use Rattle.std.specs.Prelude.{◌≡◌, ◌&&◌, cond, ℕ, leb};
 ghost use Rattle.rows.specs.Rows.{lit, inside};
 ghost use Rattle.stencil.specs.Stencil.{points_of, up_of, down_of, near_of, in_rows, in_cell_rows};
 
-use rows::{CellRows, Rows};
+use rows::{CellRows, CellWord, Rows};
 
 mod words;
 
 // The word after the last in which a point is written.
 const POINTS_END: usize = 10325;
 
-// The highest level whose points fit in the rows.
+// The highest level whose points fit in the rows. It is that of masks, but this crate knows of no masks.
 const MAX_LEVEL: u32 = 8;
 
 // Writes the points of cells: those that are corners of one.
@@ -35,8 +35,9 @@ pub fn cells_of(points: &Rows, cells: &mut CellRows)
         lit cells.new.down i ≡ cond (in_cell_rows i) (down_of (lit points.now) i) (lit cells.old.down i) }
 {
     for w in rows::FIRST..rows::CELLS_END {
-        cells.up[w] = words::up_word(points, w);
-        cells.down[w] = words::down_word(points, w);
+        let word = CellWord { at: w };
+        cells.up[w] = rows::with_next(points, word);
+        cells.down[w] = words::down_word(points, word);
     }
 }
 
@@ -52,6 +53,7 @@ pub fn near(points: &Rows, within: &Rows, out: &mut Rows)
 }
 
 // Writes all points of a level to 8, and for a level above 8 nothing.
+#[tactic(auto, using(crate::proofs::Level::all_written))]
 pub fn mark_inside(level: u32, out: &mut Rows)
     ensures { (i : ℕ) → lit out.new i ≡ cond (leb level 8) (inside level i) (lit out.old i) }
 {

@@ -1,12 +1,11 @@
-// One word of each set that is written: its 64 bits from words of the sets that are read. The bounds of a word's place are those of the range that it
-// comes from: a type for such places would be made once in each loop and taken apart at once.
+// One word of each set that is written: its 64 bits from words of the sets that are read.
 ghost use Rattle.std.specs.Prelude.{◌≡◌, ℕ, ◌≤◌, ◌<◌, ltb, length, set};
 ghost use Rattle.bitset.specs.Bits.{bit};
-ghost use Rattle.rows.specs.Rows.{lit, word_count, first_word, cells_end, inside};
+ghost use Rattle.rows.specs.Rows.{lit, word_count, first_word, inside};
 ghost use Rattle.rows.specs.Words.{WordOf};
-ghost use Rattle.stencil.specs.Stencil.{points_end, points_of, up_of, down_of, near_of};
+ghost use Rattle.stencil.specs.Stencil.{points_end, points_of, down_of, near_of};
 
-use rows::{CellRows, Rows};
+use rows::{CellRows, CellWord, Rows};
 
 // The points of cells in one word.
 pub(crate) fn points_word(cells: &CellRows, w: usize) -> u64
@@ -22,22 +21,11 @@ pub(crate) fn points_word(cells: &CellRows, w: usize) -> u64
     up_here | (up_last | (up_on | (down_last | (down_on | both))))
 }
 
-// The up cells of points in one word.
-pub(crate) fn up_word(points: &Rows, w: usize) -> u64
-    requires { (first_word ≤ w) × (w < cells_end) }
-    ensures { WordOf result (up_of (lit points.now)) w }
-{
-    let here = rows::word(points, w);
-    let next = rows::word(points, w + 5);
-    let back = rows::one_back(here, rows::word(points, w + 1));
-    here | (next | back)
-}
-
 // The down cells of points in one word.
-pub(crate) fn down_word(points: &Rows, w: usize) -> u64
-    requires { (first_word ≤ w) × (w < cells_end) }
-    ensures { WordOf result (down_of (lit points.now)) w }
+pub(crate) fn down_word(points: &Rows, cells: CellWord) -> u64
+    ensures { WordOf result (down_of (lit points.now)) cells.at }
 {
+    let w = cells.at;
     let next = rows::word(points, w + 5);
     let back = rows::one_back(rows::word(points, w), rows::word(points, w + 1));
     let both = rows::one_back(next, rows::word(points, w + 6));
@@ -58,6 +46,7 @@ pub(crate) fn near_word(points: &Rows, w: usize) -> u64
 }
 
 // The word whose lowest `count` bits are ones, at most all 64.
+#[tactic(auto, using(crate::proofs::Level::ones_all, crate::proofs::Level::ones_some))]
 fn low_ones(count: u32) -> u64
     ensures { (j : ℕ) → j < 64 → bit result j ≡ ltb j count }
 {
@@ -68,6 +57,7 @@ fn low_ones(count: u32) -> u64
 }
 
 // The points of a level in one word.
+#[tactic(auto, using(crate::proofs::Level::before_rows, crate::proofs::Level::past_sum, crate::proofs::Level::in_sum, rows::proofs::Spots::size_shifted))]
 pub(crate) fn inside_word(level: u32, w: usize) -> u64
     requires { (level ≤ 8) × (w < word_count) }
     ensures { WordOf result (inside level) w }

@@ -83,8 +83,6 @@ fn from_up(from: Site, code: Code) -> Option<Place>
     let rows: u32 = 1 << from.level.k;
     let end = row + col + 1;
     let across = (octant + 4) % 8;
-    let east = octant / 4 * 4 + (octant + 1) % 4;
-    let west = octant / 4 * 4 + (octant + 3) % 4;
     match code {
         Code::Top => found_if(row != 0, octant, Kind::Down, row.saturating_sub(1), col),
         Code::Left => found_if(col != 0, octant, Kind::Down, row, col.saturating_sub(1)),
@@ -92,8 +90,8 @@ fn from_up(from: Site, code: Code) -> Option<Place>
         Code::East => found_if(end < rows, octant, Kind::Up, row, col + 1),
         Code::West => found_if(col != 0, octant, Kind::Up, row, col.saturating_sub(1)),
         Code::OverEquator => found_if(row == 0, across, Kind::Up, row, col),
-        Code::OverEast => found_if(end == rows, east, Kind::Up, row, 0),
-        Code::OverWest => found_if(col == 0, west, Kind::Up, row, rows - 1 - row),
+        Code::OverEast => found_if(end == rows, code::east(octant), Kind::Up, row, 0),
+        Code::OverWest => found_if(col == 0, code::west(octant), Kind::Up, row, rows - 1 - row),
     }
 }
 
@@ -148,7 +146,7 @@ fn joins(from: Site, to: Site, code: Code) -> bool
     target_of(from, code) == Some(to.place)
 }
 
-// The code along which a step leads from one cell to another of its level.
+// The code along which a step leads from one cell to another of its level. Numbers are counted and no codes, since the number is what is answered.
 fn find_code(from: Site, to: Site) -> Result<u8, Refusal>
     requires { to.level.k ≡ from.level.k }
     ensures { let s = code_to from.level.k (number from.level.k (place_of to.place)) (place_of from.place) in

@@ -5,6 +5,7 @@ ghost use Rattle.std.specs.Prelude.{◌≡◌};
 ghost use Rattle.text.specs.Text.{decimal, appended, refusal_line};
 
 // Puts text into a slice from `at` on, and answers the place after it. Where it does not fit nothing is put.
+#[tactic(auto, using(crate::proofs::Laws::append_none, crate::proofs::Laws::append_some))]
 pub fn append(out: &mut [u8], at: usize, text: &[u8]) -> usize
     ensures { (out.new, result) ≡ appended out.old at text.now }
 {
@@ -20,6 +21,7 @@ pub fn append(out: &mut [u8], at: usize, text: &[u8]) -> usize
 }
 
 // Puts a number's decimal digits into a slice in the same way.
+#[tactic(auto, using(crate::proofs::Laws::few_digits, crate::proofs::Laws::fewest_spelled))]
 pub fn append_decimal(out: &mut [u8], at: usize, n: u64) -> usize
     ensures { (out.new, result) ≡ appended out.old at (decimal n) }
 {

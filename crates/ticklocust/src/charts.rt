@@ -45,8 +45,8 @@ pub extern "C" fn ticklocust_reading(
         }
         Ok(Reading::Gap) => {
             *kind = GAP;
-            // A NaN: a caller who doesn't test the kind gets no temperature either. A constant can't be a NaN.
-            *temperature = 0.0 / 0.0;
+            // A caller who doesn't test the kind gets no temperature either.
+            *temperature = f32::NAN;
             *days = NO_DAYS;
             0
         }

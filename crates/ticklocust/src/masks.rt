@@ -7,7 +7,7 @@ ghost use Rattle.c_values.specs.Values.{told, returned, in_c, lacking_cell};
 
 use crate::told;
 
-// What `within` answers when every cell of the first mask is in the second.
+// What `within` answers in C when every cell of the first mask is in the second.
 const WITHIN: u32 = cell::NO_CELL;
 
 #[unsafe(no_mangle)]

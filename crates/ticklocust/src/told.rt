@@ -1,4 +1,6 @@
 // How an answer crosses to C: a number is returned, 0 or the refusal's, and a value is written only where the call is accepted.
+// The four functions that write several values match by themselves: a closure that wrote through their references was tried in `ticklocust_centre`; it was
+// no shorter, and its proof had both cases of `map` to tell apart.
 ghost use Rattle.std.specs.Prelude.{◌≡◌};
 ghost use Rattle.refusal.specs.Refusal.{said, said_done};
 ghost use Rattle.c_values.specs.Values.{told, status};

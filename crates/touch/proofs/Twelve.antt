@@ -14,11 +14,11 @@ use Rattle.cell.specs.declared.Kind.{Kind}
 use Rattle.cell.specs.declared.Kind.TheVariants.{Up, Down}
 use Rattle.cell.specs.Cell.{Triangle, Place, Occurs, span, row, col, triangle_of, number, max_level}
 use Rattle.cell.proofs.Laws.{digit_cases}
-use Rattle.corner.specs.Corner.{quarters, equatorial}
-use Rattle.adjacency.specs.declared.Side.{Side}
+use Rattle.corner.specs.Corner.{quarters, equatorial, side_of}
+use Rattle.corner.specs.declared.Side.{Side}
 use Rattle.adjacency.specs.declared.Cube.{Cube}
 use Rattle.corner.proofs.Octants.{octant-cases}
-use Rattle.adjacency.specs.Cube.{side_of, sum, left_over, equatorial_sides, cube_of, inward, moved, moved_cube, least, most, taken, sums_fit, touching_way, place_of_cube, cell_along}
+use Rattle.adjacency.specs.Cube.{sum, left_over, equatorial_sides, cube_of, inward, moved, moved_cube, least, most, taken, sums_fit, touching_way, place_of_cube, cell_along}
 use Rattle.touch.specs.inside.Inner.{is_inner, inner_ways, inner_way, other, stepped}
 use Rattle.adjacency.proofs.Cubes.{room, room_small, span_is, sum_cube, place_cube, row_of, col_of}
 use Rattle.touch.proofs.Steps.{all, all_at, five}

@@ -6,7 +6,7 @@ ghost use Rattle.touch.specs.inside.Inner.{is_inner, inner_way, inner_step, othe
 use cell::{CellNumber, Kind, Place, Site};
 
 // The twelve ways of an up cell: its steps on the axis of the row and on that of the column, 1 for none, and whether the kind changes. A down cell's steps
-// are the opposite ones.
+// are the opposite ones. The steps are added, less one, and are no kinds.
 const WAYS: [(u32, u32, bool); 12] = [
     (0, 0, true),
     (0, 1, true),
@@ -43,7 +43,7 @@ fn step_of(kind: Kind, step: u32) -> u32
     }
 }
 
-// The kind that a cell is not.
+// The kind that a cell is not. `Kind` has no such method, since no other crate asks for it.
 fn other_kind(kind: Kind) -> Kind
     ensures { result ≡ other kind }
 {

@@ -1,27 +1,22 @@
 -- Groups one by one: how a number's groups and what groups say begin, and what is left of them. Assumes nothing.
 use Prim.Native.Nat.{ℕ, zero, suc, ◌+◌, ◌-◌, ◌*◌, ◌/◌, ◌%◌, ◌^◌, ◌≤◌, ◌<◌}
 use mathlib.Core.Path.{◌≡◌, refl, sym, ap, ap₂, ◌∙◌}
-use mathlib.Core.Bool.{Bool, true, false}
-use mathlib.Core.List.{List, [], ◌∷◌}
-use mathlib.Core.Logic.{◌⊎◌, inl, inr, ⊎_elim}
-use native.Mathlib.Nat.{pow-suc, pow-le-pow_right, mul-add, mul_assoc, mul-le-mul_left}
+use mathlib.Core.List.{List, [], ◌∷◌, ◌++◌}
+use mathlib.Core.Logic.{⊎_elim}
+use native.Mathlib.Nat.{pow-suc, mul-add, mul_assoc, mul-le-mul_left}
 use native.Mathlib.Numerals.{add-one}
 use native.Mathlib.Omega.{arith}
-use borrow.Author.Tests.{lt-ltb, le-ltb, ltb-true, ltb-false}
-use lib.Dec.{ltb}
-use lib.ListN.{length, drop, get_or, set, drop_of_length-le}
-use lib.Seq.{sets, drop-cons}
+use borrow.Author.Tests.{lt-ltb, le-ltb}
+use lib.Pow.{pow-add}
+use Rattle.std.proofs.Common.{pow_mono, max, length-set, length-drop}
+use Rattle.std.proofs.lemmas.List.{take_more, take_more_set}
+use Rattle.std.proofs.lemmas.Bool.{cases_lt}
+use Rattle.std.proofs.lemmas.Nat.{pow_pos}
+use lib.ListN.{length, take, drop, get_or, set, drop_of_length-le}
+use lib.Seq.{drop-cons}
 use Rattle.refusal.specs.Answer.{Answer, given, refused}
 use Rattle.refusal.proofs.Answers.{given≢refused, given_same}
 use Rattle.varint.specs.Varint.{groups, numeral, more, valued}
-
--- a number is one group, or has more
-pub low_or_high : (n : ℕ) → (n < 128) ⊎ (128 ≤ n)
-low_or_high n = go (ltb n 128) refl
-  where
-    go : (b : Bool) → ltb n 128 ≡ b → (n < 128) ⊎ (128 ≤ n)
-    go true e = inl (ltb-true n 128 e)
-    go false e = inr (ltb-false n 128 e)
 
 -- ---- the groups of a number
 
@@ -39,10 +34,10 @@ pub groups_most : (f n : ℕ) → length (groups f n) ≤ f
 unfolding groups
 groups_most zero n = omega arith
 groups_most (suc f) n =
-    ⊎_elim (λ l. rw (groups_last f n l) (omega arith)) (λ l. rw (groups_more f n l) (omega (arith, groups_most f (n / 128)))) (low_or_high n)
+    ⊎_elim (λ l. rw (groups_last f n l) (omega arith)) (λ l. rw (groups_more f n l) (omega (arith, groups_most f (n / 128)))) (cases_lt n 128)
 
 pub groups_some : (f n : ℕ) → 1 ≤ length (groups (suc f) n)
-groups_some f n = ⊎_elim (λ l. rw (groups_last f n l) (omega arith)) (λ l. rw (groups_more f n l) (omega arith)) (low_or_high n)
+groups_some f n = ⊎_elim (λ l. rw (groups_last f n l) (omega arith)) (λ l. rw (groups_more f n l) (omega arith)) (cases_lt n 128)
 
 -- what is left of a number below 128^(f+1) that has more than one group
 pub left_below : (f n : ℕ) → 128 ≤ n → n < 128 ^ suc f → (1 ≤ f) × (n / 128 < 128 ^ f)
@@ -84,51 +79,62 @@ valued_within (suc f) (b ∷ bs) v n e =
     (λ l.
     let a = after b (valued f bs) v n (sym (valued_more f b bs l) ∙ e) in
     omega (arith, a.bytes, valued_within f bs a.value a.count a.says))
-    (low_or_high b)
+    (cases_lt b 128)
 
--- ---- a number's groups taken one after another
+-- ---- how many groups a number has: one for each seven bits
 
--- k groups of a number are taken, and `left` is what is left of it
-pub record Taken (n k left : ℕ) : Type 0 where
-  pub few : k < 5
-  pub below : left < 128 ^ (5 - k)
-  pub whole : k + length (groups (5 - k) left) ≡ length (numeral n)
+seven_bits : (r : ℕ) → 7 ≤ r → 2 ^ r ≡ 128 * 2 ^ (r - 7)
+seven_bits r h = ap (λ (i : ℕ). 2 ^ i) (omega arith) ∙ pow-add 2 7 (r - 7)
 
-pub taken_none : (n : ℕ) → n < 2 ^ 32 → Taken n 0 n
-taken_none n h = record { few = omega arith; below = omega arith; whole = omega arith }
+pub groups_long : (f r n : ℕ) → r < 7 * f → 2 ^ r ≤ max n 1 → max n 1 < 2 * 2 ^ r → r / 7 + 1 ≡ length (groups f n)
+unfolding groups
+groups_long zero r n l h m = absurd (omega arith)
+groups_long (suc f) r n l h m =
+    ⊎_elim
+    (λ (s : r < 7). rw (groups_last f n (omega (arith, pow_mono {i = r} {j = 6} (omega arith)))) (omega arith))
+    (λ (s : 7 ≤ r).
+    let e = seven_bits r s in
+    let more : 128 ≤ n = omega (arith, pow_pos (r - 7)) in
+    rw (groups_more f n more) (omega (arith, groups_long f (r - 7) (n / 128) (omega (arith, s, l)) (omega (arith, e, h)) (omega (arith, e, m)))))
+    (cases_lt r 7)
 
-pub taken_more : (n k j left : ℕ) → 128 ≤ left → j ≡ k + 1 → Taken n k left → Taken n j (left / 128)
-taken_more n k j left h e t =
-    let s : 5 - k ≡ suc (5 - j) = omega (arith, t.few) in
-    let b = left_below (5 - j) left h (rw s at t.below) in
-    record {
-      few = omega (arith, b.0);
-      below = b.1;
-      whole = omega (arith, rw (s, groups_more (5 - j) left h) at t.whole);
-    }
+-- ---- a number's groups put one after another
 
-pub taken_all : (n k left : ℕ) → left < 128 → Taken n k left → k + 1 ≡ length (numeral n)
-taken_all n k left h t =
-    let s : 5 - k ≡ suc (4 - k) = omega (arith, t.few) in
-    rw (s, groups_last (4 - k) left h) at t.whole
+-- k groups of a number are put, and `rest` is what is left of it
+pub record Filled (n rest k : ℕ) (out : List ℕ) : Type 0 where
+  pub same : length out ≡ length (numeral n)
+  pub front : take k out ≡ take k (numeral n)
+  pub left : k < length (numeral n) → drop k (numeral n) ≡ groups (5 - k) rest
 
-pub taken_some : (n k left : ℕ) → Taken n k left → k < length (numeral n)
-taken_some n k left t =
-    let s : 5 - k ≡ suc (4 - k) = omega (arith, t.few) in
-    omega (arith, rw s at t.whole, groups_some (4 - k) left)
+module _ (n rest k : ℕ) (out : List ℕ) (f : Filled n rest k out) (h : k < length out) where
+  -- what is left begins with the next group
+  next : groups (suc (4 - k)) rest ≡ get_or (numeral n) k 0 ∷ drop (k + 1) (numeral n)
+  next =
+      let w : 5 - k ≡ suc (4 - k) = omega (arith, f.same, groups_most 5 n) in
+      let l : k < length (numeral n) = omega (arith, f.same) in
+      ap (λ (i : ℕ). groups i rest) (sym w) ∙ sym (f.left l) ∙ rw (add-one k) (drop-cons (numeral n) k 0 l)
 
--- a group is put into a slice before those of what is left
-pub put_more : (k j left : ℕ) (out : List ℕ) (next : ℕ) → 128 ≤ left → j ≡ k + 1 → k < 5 →
-    sets out next (groups (5 - k) left) ≡ sets (set out next (128 + left % 128)) (next + 1) (groups (5 - j) (left / 128))
-put_more k j left out next h e f =
-    let s : 5 - k ≡ suc (5 - j) = omega arith in
-    rw (s, groups_more (5 - j) left h, add-one)
+  put : (b : ℕ) → b ≡ get_or (numeral n) k 0 → take (k + 1) (set out k b) ≡ take (k + 1) (numeral n)
+  put b e = take_more_set out k b h ∙ ap₂ (λ (xs : List ℕ) (x : ℕ). xs ++ x ∷ []) f.front e ∙ sym (take_more (numeral n) k 0 (omega (arith, f.same)))
 
--- or is the last
-pub put_last : (k left : ℕ) (out : List ℕ) (next : ℕ) → left < 128 → k < 5 → sets out next (groups (5 - k) left) ≡ set out next left
-put_last k left out next h f =
-    let s : 5 - k ≡ suc (4 - k) = omega arith in
-    rw (s, groups_last (4 - k) left h)
+  pub filled_last : rest < 128 → Filled n (rest / 128) (k + 1) (set out k rest)
+  filled_last l =
+      let e = sym (groups_last (4 - k) rest l) ∙ next in
+      record {
+        same = length-set out k rest ∙ f.same;
+        front = put rest (ap (λ (xs : List ℕ). get_or xs 0 0) e);
+        left = λ m. absurd (omega (arith, m, ap length e, length-drop (k + 1) (numeral n)));
+      }
+
+  pub filled_more : 128 ≤ rest → Filled n (rest / 128) (k + 1) (set out k (128 + rest % 128))
+  filled_more l =
+      let e = sym (groups_more (4 - k) rest l) ∙ next in
+      let w : 5 - (k + 1) ≡ 4 - k = omega arith in
+      record {
+        same = length-set out k (128 + rest % 128) ∙ f.same;
+        front = put (128 + rest % 128) (ap (λ (xs : List ℕ). get_or xs 0 0) e);
+        left = λ m. sym (ap (drop 1) e) ∙ ap (λ (i : ℕ). groups i (rest / 128)) (sym w);
+      }
 
 -- ---- groups read one after another
 
@@ -151,13 +157,6 @@ pub record Reading (bs : List ℕ) (v u k : ℕ) : Type 0 where
   pub units : u ≡ 128 ^ k
   pub small : v < u
   pub says : valued 5 bs ≡ onto v u k (valued (5 - k) (drop k bs))
-
-pub reading_none : (bs : List ℕ) → Reading bs 0 1 0
-reading_none bs = record { few = omega arith; units = refl; small = omega arith; says = onto_none (valued 5 bs) }
-
--- before the fifth, the units are at most 128^4
-pub reading_units : (bs : List ℕ) (v u k : ℕ) → k < 5 → Reading bs v u k → u ≤ 128 ^ 4
-reading_units bs v u k h r = omega (arith, r.units, pow-le-pow_right {n = 128} (omega arith) {i = k} {j = 4} (omega arith))
 
 module _ (bs : List ℕ) (v u k : ℕ) (h : k < 5) (r : Reading bs v u k) where
   one_less : 5 - k ≡ suc (4 - k)

@@ -11,10 +11,11 @@ use borrow.Author.Tests.{lt-leb, leb-false, eqb-true, eq-eqb, not-false}
 use lib.Dec.{leb, eqb}
 use lib.ListN.{length, take, drop, get_or, length-drop}
 use lib.Seq.{drop_at, get_or-drop, take-nil, take-take}
+use Rattle.std.proofs.lemmas.Bool.{cases_lt}
 use Rattle.refusal.specs.Answer.{Answer, given, refused, ◌when◌}
 use Rattle.refusal.proofs.Answers.{given≢refused, given_same, passed, gives}
 use Rattle.varint.specs.Varint.{groups, numeral, more, valued, in_form, read_call, Exactly}
-use Rattle.varint.proofs.Groups.{low_or_high, groups_last, groups_more, groups_most, groups_some, left_below}
+use Rattle.varint.proofs.Groups.{groups_last, groups_more, groups_most, groups_some, left_below}
 use Rattle.varint.proofs.Groups.{valued_last, valued_more, after, valued_within}
 
 -- a number has one byte to five
@@ -30,7 +31,7 @@ groups_within (suc f) (suc j) n h =
     ⊎_elim
     (λ l. rw (groups_last f n l) (omega arith))
     (λ l. rw (groups_more f n l) (omega (arith, groups_within f j (n / 128) (left_below (suc j) n l h).1)))
-    (low_or_high n)
+    (cases_lt n 128)
 
 pub numeral_within : (j n : ℕ) → n < 128 ^ suc j → length (numeral n) ≤ suc j
 numeral_within j n h = groups_within 5 j n h
@@ -39,9 +40,9 @@ numeral_within j n h = groups_within 5 j n h
 groups_bytes : (f n i : ℕ) → get_or (groups f n) i 0 < 256
 unfolding groups
 groups_bytes zero n i = omega arith
-groups_bytes (suc f) n zero = ⊎_elim (λ l. rw (groups_last f n l) (omega arith)) (λ l. rw (groups_more f n l) (omega arith)) (low_or_high n)
+groups_bytes (suc f) n zero = ⊎_elim (λ l. rw (groups_last f n l) (omega arith)) (λ l. rw (groups_more f n l) (omega arith)) (cases_lt n 128)
 groups_bytes (suc f) n (suc i) =
-    ⊎_elim (λ l. rw (groups_last f n l) (omega arith)) (λ l. rw (groups_more f n l) (groups_bytes f (n / 128) i)) (low_or_high n)
+    ⊎_elim (λ l. rw (groups_last f n l) (omega arith)) (λ l. rw (groups_more f n l) (groups_bytes f (n / 128) i)) (cases_lt n 128)
 
 pub numeral_bytes : (n i : ℕ) → get_or (numeral n) i 0 < 256
 numeral_bytes n i = groups_bytes 5 n i
@@ -58,7 +59,7 @@ groups_valued (suc f) n rest h =
     (valued_more (suc f) (128 + n % 128) (groups (suc f) (n / 128) ++ rest) (omega arith)
     ∙ ap (more (128 + n % 128)) (groups_valued f (n / 128) rest (left_below (suc f) n l h).1)
     ∙ ap₂ (λ (v k : ℕ). given (v, k)) (omega arith) (omega arith)))
-    (low_or_high n)
+    (cases_lt n 128)
 
 -- reading a number from where it was put gives it and the place after it
 pub read_written : (n at : ℕ) (front rest : List ℕ) → n < 2 ^ 32 → length front ≡ at →
@@ -73,7 +74,7 @@ read_written n at front rest h e =
 
 -- a number that has two bytes in its shortest form is no single group
 not_one : (f v n k : ℕ) → n ≡ length (groups (suc f) v) → n ≡ k + 1 → 1 ≤ k → 128 ≤ v
-not_one f v n k l e h = ⊎_elim (λ s. absurd (omega (arith, l ∙ ap length (groups_last f v s)))) (λ m. m) (low_or_high v)
+not_one f v n k l e h = ⊎_elim (λ s. absurd (omega (arith, l ∙ ap length (groups_last f v s)))) (λ m. m) (cases_lt v 128)
 
 valued_groups : (f : ℕ) (bs : List ℕ) (v n : ℕ) → ((i : ℕ) → get_or bs i 0 < 256) →
     valued f bs ≡ given (v, n) → n ≡ length (groups f v) → take n bs ≡ groups f v
@@ -99,7 +100,7 @@ valued_groups (suc f) (b ∷ bs) v n d e l =
     ap (λ (k : ℕ). take k (b ∷ bs)) (a.bytes ∙ add-one a.count)
     ∙ ap₂ (λ (x : ℕ) (xs : List ℕ). x ∷ xs) eb (valued_groups f bs a.value a.count (λ i. d (suc i)) a.says el ∙ ap (groups f) ev)
     ∙ sym g)
-    (low_or_high b)
+    (cases_lt b 128)
 
 -- what the tests of a number's form leave: v, of `count` bytes
 record Formed (at : ℕ) (a : Answer (ℕ × ℕ)) (v next : ℕ) : Type 0 where
@@ -150,7 +151,7 @@ valued_front (suc f) (b ∷ bs) =
     ⊎_elim
     (λ l. valued_last f b (take f bs) l ∙ sym (valued_last f b bs l))
     (λ l. valued_more f b (take f bs) l ∙ ap (more b) (valued_front f bs) ∙ sym (valued_more f b bs l))
-    (low_or_high b)
+    (cases_lt b 128)
 
 -- the bytes from a place on, of some at the front
 drop_take : (at j : ℕ) (bs : List ℕ) → drop at (take (at + j) bs) ≡ take j (drop at bs)

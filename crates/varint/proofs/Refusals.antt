@@ -9,10 +9,11 @@ use native.Mathlib.Omega.{arith}
 use borrow.Author.Tests.{leb-true, leb-false, eqb-true, eqb-false, ne_eqb, not-true, ltb-true, ltb-false}
 use lib.Dec.{leb, eqb, ltb}
 use lib.ListN.{length, drop, get_or}
+use Rattle.std.proofs.lemmas.Bool.{cases_lt}
 use Rattle.refusal.specs.Answer.{given, refused, Test, ◌when◌, First}
 use Rattle.refusal.proofs.Answers.{refused_same, refuses, first}
 use Rattle.varint.specs.Varint.{groups, numeral, more, valued, in_form, read_call, HighBits, EndsEarly, groups_say, OutOfForm, NotInForm}
-use Rattle.varint.proofs.Groups.{low_or_high, groups_last, groups_more, valued_last, valued_more}
+use Rattle.varint.proofs.Groups.{groups_last, groups_more, valued_last, valued_more}
 use Rattle.varint.proofs.Laws.{numeral_within}
 
 -- ---- how bytes begin: with the end of a number, with f bytes that go on, or with fewer and nothing after them
@@ -43,7 +44,7 @@ shape (suc f) (b ∷ bs) =
     ⊎_elim
     (λ (l : b < 128). ends 0 (omega arith) (λ i h. absurd (omega arith)) (omega arith) l (valued_last f b bs l))
     (λ (h : 128 ≤ b). shape_more f b bs h (shape f bs))
-    (low_or_high b)
+    (cases_lt b 128)
 
 -- a byte with its high bit set is there
 high_inside : (bs : List ℕ) (i : ℕ) → 128 ≤ get_or bs i 0 → i < length bs

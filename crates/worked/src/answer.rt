@@ -1,6 +1,7 @@
 // Short answers, and how they are printed.
 use crate::name::Name;
 use crate::temperature::Temperature;
+use crate::words::LETTERS;
 use cell::{Kind, Place};
 use chart::Reading;
 use position::{Latitude, Longitude};
@@ -28,9 +29,6 @@ pub enum Answer {
     Lacks(Name),
     Reading(Reading),
 }
-
-// The letters of the codes 0 to 7.
-const LETTERS: [&str; 8] = ["t", "l", "r", "e", "w", "T", "E", "W"];
 
 impl Display for Answer {
     fn fmt<W: fmt::Write>(&self, f: &mut fmt::Formatter<W>) -> fmt::Result {

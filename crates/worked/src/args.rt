@@ -12,6 +12,12 @@ pub struct Args<'a> {
     rest: &'a [Word],
 }
 
+// The words up to the first bar, and those from it on.
+fn cut_at_bar(words: &[Word]) -> (&[Word], &[Word]) {
+    let bar = words.iter().position(|word| matches!(word, Word::Bar));
+    words.split_at(bar.unwrap_or(words.len()))
+}
+
 impl<'a> Args<'a> {
     // Each call takes a level first, which is that of the addresses.
     pub fn new(alloc: Global, words: &'a [Word], by_address: bool) -> Args<'a> {
@@ -54,9 +60,7 @@ impl<'a> Args<'a> {
 
     // The words up to the next bar, which is passed over.
     pub fn words(&mut self) -> &'a [Word] {
-        let rest = self.rest;
-        let bar = rest.iter().position(|word| matches!(word, Word::Bar));
-        let (words, rest) = rest.split_at(bar.unwrap_or(rest.len()));
+        let (words, rest) = cut_at_bar(self.rest);
         self.rest = match rest {
             [_, rest @ ..] => rest,
             [] => rest,
@@ -84,8 +88,7 @@ impl<'a> Args<'a> {
 
     // The words up to the first bar, whatever was read of them.
     pub fn front(&self) -> &'a [Word] {
-        let bar = self.all.iter().position(|word| matches!(word, Word::Bar));
-        let (front, _) = self.all.split_at(bar.unwrap_or(self.all.len()));
+        let (front, _) = cut_at_bar(self.all);
         front
     }
 

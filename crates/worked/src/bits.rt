@@ -1,6 +1,7 @@
 // Temperatures as text by their bits, among them some that no word of a case is.
-use std::alloc::AllocError;
-use std::fmt::Write;
+use crate::temperature::DECIMALS;
+use std::fmt;
+use std::fmt::Display;
 
 pub const NAN: u32 = 0x7fc0_0000;
 
@@ -8,8 +9,8 @@ const INFINITY: u32 = 0x7f80_0000;
 
 const SIGN: u32 = 0x8000_0000;
 
-// What stands after the point, by eighths.
-const DECIMALS: [u32; 8] = [0, 125, 25, 375, 5, 625, 75, 875];
+#[derive(Clone, Copy)]
+pub struct Bits(pub u32);
 
 // How many eighths a float, or the one next to it, is, by its bits but for the sign; none where they are not between an eighth and 2^21.
 fn eighths(size: u32) -> Option<u32> {
@@ -37,23 +38,23 @@ fn mark(size: u32, negative: bool) -> &'static str {
 }
 
 // One that is near no eighths is written by its bits but for the sign.
-pub fn write(bits: u32, out: &mut String) -> Result<(), AllocError> {
-    let size = bits % SIGN;
-    let negative = SIGN <= bits;
-    if INFINITY < size {
-        return out.push_str("nan");
-    }
-    if negative {
-        out.push('-')?;
-    }
-    if size == INFINITY {
-        return out.push_str("inf");
-    }
-    match eighths(size) {
-        None => write!(out, "{size}"),
-        Some(n) => {
-            let decimals = DECIMALS[(n % 8) as usize];
-            write!(out, "{}.{decimals}{}", n / 8, mark(size, negative))
+impl Display for Bits {
+    fn fmt<W: fmt::Write>(&self, f: &mut fmt::Formatter<W>) -> fmt::Result {
+        let size = self.0 % SIGN;
+        let negative = SIGN <= self.0;
+        let sign = if negative { "-" } else { "" };
+        if INFINITY < size {
+            return write!(f, "nan");
+        }
+        if size == INFINITY {
+            return write!(f, "{sign}inf");
+        }
+        match eighths(size) {
+            None => write!(f, "{sign}{size}"),
+            Some(n) => {
+                let decimals = DECIMALS[(n % 8) as usize];
+                write!(f, "{sign}{}.{decimals}{}", n / 8, mark(size, negative))
+            }
         }
     }
 }

@@ -1,10 +1,11 @@
 // Readings and days of charts.
 use crate::answer::Answer;
 use crate::args::Args;
+use crate::bits::Bits;
 use crate::fault::Fault;
+use crate::masks;
 use crate::temperature::Temperature;
 use crate::words::Word;
-use crate::{bits, masks};
 use std::fmt::Write;
 
 // The reading of a cell, with the two lists of its chart.
@@ -46,8 +47,7 @@ pub fn day(args: &mut Args<'_>, out: &mut String) -> Result<(), Fault> {
     out.push_str(" /")?;
     if is_full {
         for word in front {
-            out.push(' ')?;
-            bits::write(word.bits(), out)?;
+            write!(out, " {}", Bits(word.bits()))?;
         }
     }
     for temperature in temperatures {

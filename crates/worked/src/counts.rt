@@ -6,28 +6,29 @@ use crate::answer::Answer;
 use crate::args::Args;
 use crate::fault::Fault;
 use crate::words::Word;
+use Turn::{Last, On};
 
 // The highest level that is counted.
 const MOST: u32 = 6;
 
-// What the rule makes of a digit: the last one that changes, or one after which it goes on to the digit before; or there is no such step.
+// What the rule makes of a digit: the last one that changes, or one after which it goes on to the digit before.
 #[derive(Clone, Copy)]
 enum Turn {
     Last(u32),
     On(u32),
-    None,
 }
 
-// For each code and each digit. T, E and W leave the octant: there is such a step where t, r or l would go on past the first digit.
-const TURNS: [[Turn; 4]; 8] = [
-    [Turn::Last(1), Turn::Last(0), Turn::On(2), Turn::On(3)],
-    [Turn::Last(2), Turn::On(3), Turn::On(1), Turn::Last(0)],
-    [Turn::Last(3), Turn::On(2), Turn::Last(0), Turn::On(1)],
-    [Turn::None, Turn::None, Turn::None, Turn::None],
-    [Turn::None, Turn::None, Turn::None, Turn::None],
-    [Turn::None, Turn::None, Turn::On(2), Turn::On(3)],
-    [Turn::None, Turn::On(1), Turn::None, Turn::On(2)],
-    [Turn::None, Turn::On(1), Turn::On(3), Turn::None],
+// For each code and each digit; none where there is no such step. T, E and W leave the octant: there is such a step where t, r or l would go on past
+// the first digit.
+const TURNS: [[Option<Turn>; 4]; 8] = [
+    [Some(Last(1)), Some(Last(0)), Some(On(2)), Some(On(3))],
+    [Some(Last(2)), Some(On(3)), Some(On(1)), Some(Last(0))],
+    [Some(Last(3)), Some(On(2)), Some(Last(0)), Some(On(1))],
+    [None; 4],
+    [None; 4],
+    [None, None, Some(On(2)), Some(On(3))],
+    [None, Some(On(1)), None, Some(On(2))],
+    [None, Some(On(1)), Some(On(3)), None],
 ];
 
 // The octants to which T, E and W lead from each.
@@ -45,12 +46,9 @@ fn by_digits(level: u32, cell: u32, code: u8) -> Option<u32>
     let mut rest = cell;
     let mut digits = 0;
     for i in 0..level {
-        match turns[(rest % 4) as usize] {
-            Turn::None => return None,
-            Turn::Last(digit) => return Some(
-                ((rest / 4) << (2 * i + 2)) | (digit << (2 * i)) | digits,
-            ),
-            Turn::On(digit) => digits |= digit << (2 * i),
+        match turns[(rest % 4) as usize]? {
+            Last(digit) => return Some(((rest / 4) << (2 * i + 2)) | (digit << (2 * i)) | digits),
+            On(digit) => digits |= digit << (2 * i),
         }
         rest /= 4;
     }
@@ -84,11 +82,10 @@ pub fn tally(args: &mut Args<'_>) -> Result<Answer, Fault> {
     let level = level_of(args)?;
     let number = args.number()?;
     args.end()?;
-    let mut count: u32 = 0;
-    for cell in 0..8 << (2 * level) {
-        count = count.saturating_add(u32::from(touched(level, cell) == number));
-    }
-    Ok(Answer::Number(count))
+    let count = (0..8 << (2 * level))
+        .filter(|cell| touched(level, *cell) == number)
+        .count();
+    Ok(Answer::Number(count as u32))
 }
 
 // At how many of all cells the rule and the step of a code agree.
@@ -97,12 +94,13 @@ pub fn rule(args: &mut Args<'_>) -> Result<Answer, Fault> {
     let code = args.one(Word::code)?;
     args.end()?;
     let all = 8 << (2 * level);
-    let mut some: u32 = 0;
-    for cell in 0..all {
-        let agree = step::step_along(level, cell, code).ok() == by_digits(level, cell, code);
-        some = some.saturating_add(u32::from(agree));
-    }
-    Ok(Answer::Share { some, all })
+    let some = (0..all)
+        .filter(|cell| step::step_along(level, *cell, code).ok() == by_digits(level, *cell, code))
+        .count();
+    Ok(Answer::Share {
+        some: some as u32,
+        all,
+    })
 }
 
 // The differences over the direct neighbours inside octant 0.

@@ -3,6 +3,7 @@ use crate::answer::Answer;
 use crate::args::Args;
 use crate::fault::Fault;
 use crate::words::Word;
+use refusal::Refusal;
 use std::alloc::Global;
 use std::fmt::Write;
 
@@ -100,26 +101,32 @@ pub fn join(args: &mut Args<'_>, out: &mut String) -> Result<(), Fault> {
     write_cells(args, level, &both, out)
 }
 
-pub fn grow(args: &mut Args<'_>, out: &mut String) -> Result<(), Fault> {
+// A mask grown or shrunk by so many rings, as `resize`, a call of the library, does it.
+fn resized<F: Fn(u32, u32, &[u8], &mut [u8], &mut [u8]) -> Result<(), Refusal>>(
+    args: &mut Args<'_>,
+    out: &mut String,
+    resize: F,
+) -> Result<(), Fault>
+where
+    F: Drop,
+    requires { F.IsAlwaysCallable resize }
+{
     let level = args.number()?;
     let rings = args.number()?;
     let mask = next_mask(args, level)?;
     args.done()?;
-    let mut grown = empty(args, level)?;
+    let mut resized = empty(args, level)?;
     let mut work = empty(args, level)?;
-    grow::grow(level, rings, &mask, &mut grown, &mut work)?;
-    write_cells(args, level, &grown, out)
+    resize(level, rings, &mask, &mut resized, &mut work)?;
+    write_cells(args, level, &resized, out)
+}
+
+pub fn grow(args: &mut Args<'_>, out: &mut String) -> Result<(), Fault> {
+    resized(args, out, grow::grow)
 }
 
 pub fn shrink(args: &mut Args<'_>, out: &mut String) -> Result<(), Fault> {
-    let level = args.number()?;
-    let rings = args.number()?;
-    let mask = next_mask(args, level)?;
-    args.done()?;
-    let mut shrunk = empty(args, level)?;
-    let mut work = empty(args, level)?;
-    grow::shrink(level, rings, &mask, &mut shrunk, &mut work)?;
-    write_cells(args, level, &shrunk, out)
+    resized(args, out, grow::shrink)
 }
 
 // A level, and the cells that a border leaves on the side away from a cell.

@@ -7,7 +7,7 @@ use std::fmt::Display;
 pub struct Temperature(pub f32);
 
 // What stands after the point, by eighths.
-const DECIMALS: [&str; 8] = ["0", "125", "25", "375", "5", "625", "75", "875"];
+pub const DECIMALS: [&str; 8] = ["0", "125", "25", "375", "5", "625", "75", "875"];
 
 // Whole eighths, as many as are read: fewer than 2^22, and their digits a number below 2^24.
 fn eighths(text: &str) -> Option<f32> {

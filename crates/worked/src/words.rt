@@ -6,6 +6,9 @@ use std::alloc::{AllocError, Global};
 // How many words a case may have, with its end.
 pub const WORDS: usize = 4200;
 
+// The letters of the codes 0 to 7.
+pub const LETTERS: [&str; 8] = ["t", "l", "r", "e", "w", "T", "E", "W"];
+
 #[derive(Clone, Copy)]
 pub enum Word {
     Number(u32),
@@ -28,21 +31,19 @@ pub enum Word {
 impl Word {
     // A word is a name, or just as its value is written.
     fn parse(text: &str) -> Word {
-        Word::named(text)
+        Word::letter(text)
+            .or_else(|| Word::named(text))
             .or_else(|| Word::value(text))
             .unwrap_or(Word::Unknown)
     }
 
+    fn letter(text: &str) -> Option<Word> {
+        let code = LETTERS.iter().position(|letter| *letter == text)?;
+        u8::try_from(code).ok().map(Word::Code)
+    }
+
     fn named(text: &str) -> Option<Word> {
         Some(match text {
-            "t" => Word::Code(0),
-            "l" => Word::Code(1),
-            "r" => Word::Code(2),
-            "e" => Word::Code(3),
-            "w" => Word::Code(4),
-            "T" => Word::Code(5),
-            "E" => Word::Code(6),
-            "W" => Word::Code(7),
             "up" => Word::Kind(Kind::Up),
             "down" => Word::Kind(Kind::Down),
             "long" => Word::Long,
@@ -152,11 +153,11 @@ fn cell_at(digits: &[u8]) -> Option<u32> {
     Some(address::read(digits))
 }
 
-// How often a word stands there; too often where that is no number.
-fn times(text: &str) -> usize {
+// How often a word stands there.
+fn times(text: &str) -> Option<usize> {
     match Word::parse(text) {
-        Word::Number(n) => n as usize,
-        _ => WORDS,
+        Word::Number(n) => Some(n as usize),
+        _ => None,
     }
 }
 
@@ -170,7 +171,8 @@ pub fn read_line(alloc: Global, line: &[u8], words: &mut Vec<Word>) -> Result<()
         .filter(|text| !text.is_empty())
     {
         let (times, word) = match text.split_once('*') {
-            Some((count, word)) => (times(count), word),
+            // Too often where that is no number.
+            Some((count, word)) => (times(count).unwrap_or(WORDS), word),
             None => (1, text),
         };
         let word = Word::parse(word);

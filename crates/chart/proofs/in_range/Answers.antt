@@ -1,12 +1,13 @@
--- `in_range` meets its contract: the code's two literals are the bounds of the range. Assumes nothing.
+-- `in_range` meets its contract: the range's bounds are those of the definition. Assumes nothing.
+use mathlib.Core.Path.{ap₂, ◌∙◌}
+use mathlib.Core.Bool.{Bool, ◌&&◌}
 use lib.Ieee as Ieee
-use Rattle.chart.proofs.Laws.{past_lowest, below_lowest}
+use Rattle.chart.specs.Chart.{in_range, lowest, highest}
+use Rattle.chart.proofs.Laws.{compared}
 use Rattle.chart.proofs.in_range.Goals as goal
 
-pub returns-then-temperature : goal.returns-then-temperature
-unfolding Ieee.of_bits
-returns-then-temperature c = past_lowest c.args.temperature c.if-temperature.true
-
-pub returns-else-temperature : goal.returns-else-temperature
-unfolding Ieee.of_bits
-returns-else-temperature c = below_lowest c.args.temperature c.if-temperature.false
+pub returns : goal.returns
+unfolding in_range Ieee.of_bits
+returns c =
+    (rw (c.new.ensures.start, c.new.ensures.end, c.new.ensures.exhausted) at c.contains.ensures.value)
+    ∙ ap₂ (λ (a b : Bool). a && b) (compared lowest c.args.temperature) (compared c.args.temperature highest)

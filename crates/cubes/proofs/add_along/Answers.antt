@@ -15,46 +15,45 @@ use Rattle.adjacency.proofs.Cubes.{Spanned, cube_occurs}
 use Rattle.adjacency.proofs.Ways.{no_cell, a_cell, moved_spanned}
 use mathlib.Core.Bool.{not}
 use Rattle.cubes.proofs.add_along.Goals as goal
-use Rattle.cubes.proofs.add_along.Goals.{After-number, After-place_of_cube-place, Else-not-is_touching_way}
+use Rattle.cubes.proofs.add_along.Goals.{After-number, After-place_of_cube-place, Else-not-are_touching}
 
-pub returns-then-not-is_touching_way : goal.returns-then-not-is_touching_way
+pub returns-then-not-are_touching : goal.returns-then-not-are_touching
 unfolding with_cell
-returns-then-not-is_touching_way c =
+returns-then-not-are_touching c =
     let a = c.args in
-    rw (← (no_cell a.level.k a.room a.cube c.requires.room.1 a.w (sym c.is_touching_way.ensures ∙ not-true _ (ap not c.if-not-is_touching_way.true))))
+    rw (← (no_cell a.level.k a.room a.cube c.requires.room.0 a.ways.number (sym c.are_touching.ensures ∙ not-true _ (ap not c.if-not-are_touching.true))))
 
 -- the way leads to a touching cell, so the next cube is next-spanned by one
-leads-on : (c : Else-not-is_touching_way) → touching_way c.args.room c.args.cube c.args.w ≡ true
-leads-on c = sym c.is_touching_way.ensures ∙ not-false _ (ap not c.if-not-is_touching_way.false)
+leads-on : (c : Else-not-are_touching) → touching_way c.args.room c.args.cube c.args.ways.number ≡ true
+leads-on c = sym c.are_touching.ensures ∙ not-false _ (ap not c.if-not-are_touching.false)
 
-next-spanned : (c : Else-not-is_touching_way) → Spanned c.args.level.k (moved_cube c.args.w c.args.cube)
+next-spanned : (c : Else-not-are_touching) → Spanned c.args.level.k (moved_cube c.args.ways.number c.args.cube)
 next-spanned c =
     let a = c.args in
-    let h = c.requires.room in
-    moved_spanned a.level.k a.room a.cube h.1 a.w h.0 (leads-on c)
+    moved_spanned a.level.k a.room a.cube c.requires.room.0 a.ways.number a.ways.few (leads-on c)
 
 pub place_of_cube-place-requires : goal.place_of_cube-place-requires
 place_of_cube-place-requires c =
-    omega (arith, ap sum c.cube_along.ensures, next-spanned (goal.at.place_of_cube-place-requires c).Else-not-is_touching_way, pow_mono {i = c.args.level.k} {j = max_level} c.args.level.bounded)
+    omega (arith, ap sum c.from.ensures, next-spanned (goal.at.place_of_cube-place-requires c).Else-not-are_touching, pow_mono {i = c.args.level.k} {j = max_level} c.args.level.bounded)
 
 -- the place of that cell
 reached :
     (c : After-place_of_cube-place)
-    → let a = c.args in place_of c.place_of_cube-place.result ≡ place_of_cube a.level.k (moved_cube a.w a.cube)
+    → let a = c.args in place_of c.place_of_cube-place.result ≡ place_of_cube a.level.k (moved_cube a.ways.number a.cube)
 reached c =
-    c.place_of_cube-place.ensures ∙ ap₂ place_in (shifted 32 c.args.level.k (omega (arith, c.args.level.bounded))) c.cube_along.ensures
+    c.place_of_cube-place.ensures ∙ ap₂ place_in (shifted 32 c.args.level.k (omega (arith, c.args.level.bounded))) c.from.ensures
 
 pub invariant_of-site : goal.invariant_of-site
 invariant_of-site c =
-    record { occurs = subst (Occurs c.args.level.k) (sym (reached (goal.at.invariant_of-site c).After-place_of_cube-place)) (cube_occurs c.args.level.k _ (next-spanned (goal.at.invariant_of-site c).Else-not-is_touching_way)) }
+    record { occurs = subst (Occurs c.args.level.k) (sym (reached (goal.at.invariant_of-site c).After-place_of_cube-place)) (cube_occurs c.args.level.k _ (next-spanned (goal.at.invariant_of-site c).Else-not-are_touching)) }
 
 -- so the cell along the way is the one whose number was given, and there is room for it
 cell-known :
     (c : After-number)
-    → let a = c.args in cell_along a.level.k a.cube a.w ≡ some c.number.result
+    → let a = c.args in cell_along a.level.k a.cube a.ways.number ≡ some c.number.result
 cell-known c =
     let a = c.args in
-    sym (a_cell a.level.k a.room a.cube c.requires.room.1 a.w (leads-on (goal.at.After-number c).Else-not-is_touching_way))
+    sym (a_cell a.level.k a.room a.cube c.requires.room.0 a.ways.number (leads-on (goal.at.After-number c).Else-not-are_touching))
     ∙ ap some (sym (c.number.ensures ∙ ap (number a.level.k) (reached (goal.at.After-number c).After-place_of_cube-place)))
 
 room-left : (c : After-number) → let a = c.args in a.count < length a.found.now

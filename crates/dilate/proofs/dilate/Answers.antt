@@ -4,11 +4,6 @@ use Rattle.raster.proofs.Answers.{ok_is, mask_is}
 use Rattle.dilate.proofs.Laws.{dilated_mask, dilated_other}
 use Rattle.dilate.proofs.dilate.Goals as goal
 
-pub dilate_mask-requires : goal.dilate_mask-requires
-dilate_mask-requires c =
-    let a = c.args in
-    (mask_is a.level a.mask.now (sym (c.if-is_ok.ensures.value ∙ ok_is a.level a.mask.now _ c.is_mask.ensures))).1
-
 pub returns-then-is_ok : goal.returns-then-is_ok
 returns-then-is_ok c =
     let a = c.args in

@@ -4,12 +4,8 @@ use mathlib.Core.List.{List}
 use Prim.Native.Nat.{ℕ}
 use Rattle.dilate.specs.Dilate.{dilated}
 use Rattle.dilate.proofs.Laws.{dilated_mask}
-use Rattle.std.proofs.Common.{rules}
-use Rattle.grow.proofs.Answers.{ready, refused_alike, prepared, rings_done}
+use Rattle.grow.proofs.Answers.{ready, prepared, rings_done}
 use Rattle.grow.proofs.grow.Goals as goal
-
-pub returns-in_err-prepare : goal.returns-in_err-prepare
-returns-in_err-prepare c = search (rules, refused_alike)
 
 pub returns : goal.returns
 returns c =

@@ -7,13 +7,9 @@ use lib.ListN.{length}
 use Rattle.bitset.specs.Bits.{marked}
 use Rattle.bitset.proofs.Outside.{complement_marks}
 use Rattle.dilate.proofs.Laws.{dilated_mask}
-use Rattle.std.proofs.Common.{rules}
-use Rattle.grow.proofs.Answers.{ready, refused_alike, prepared, rings_done}
+use Rattle.grow.proofs.Answers.{ready, prepared, rings_done}
 use Rattle.grow.proofs.Shrinking.{shrunk_bytes}
 use Rattle.grow.proofs.shrink.Goals as goal
-
-pub returns-in_err-prepare : goal.returns-in_err-prepare
-returns-in_err-prepare c = search (rules, refused_alike)
 
 pub returns : goal.returns
 returns c =

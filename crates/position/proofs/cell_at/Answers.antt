@@ -2,7 +2,7 @@
 -- occurs `number_of` does not refuse it.
 -- Assumes nothing.
 use Prim.Native.Nat.{ℕ, ◌%◌, ◌≤◌}
-use borrow.Author.Tests.{lt-ltb, le-ltb}
+use borrow.Author.Tests.{le-ltb}
 use mathlib.Core.List.{[], ◌∷◌}
 use mathlib.Core.Path.{◌≡◌, ap, sym, ◌∙◌}
 use native.Mathlib.Omega.{arith}
@@ -19,19 +19,6 @@ use Rattle.position.proofs.cell_at.Goals.{In_ok-level, Else-out}
 -- the level was found to be within its bound
 known : (c : In_ok-level) → (c.args.level ≤ max_level) × (c.args.level ≡ c.in_ok-level.level.k)
 known c = given_level _ _ _ c.in_ok-level.ensures
-
-pub returns-then-p-gt-QUARTER : goal.returns-then-p-gt-QUARTER
-returns-then-p-gt-QUARTER c =
-    let k = known (goal.at.returns-then-p-gt-QUARTER c).In_ok-level in
-    let y = c.args.latitude.0 in
-    simp (le-ltb _ _ k.0, lt-ltb q (nat_abs y) (omega (arith, c.from_equator-p.ensures)))
-
-pub returns-then-out : goal.returns-then-out
-returns-then-out c =
-    let k = known (goal.at.returns-then-out c).In_ok-level in
-    let y = c.args.latitude.0 in
-    let north = le-ltb q (nat_abs y) (omega (arith, c.from_equator-p.ensures)) in
-    simp (le-ltb _ _ k.0, north, sym c.longitude_out-out.ensures ∙ c.if-out.true)
 
 -- past the tests none applies
 past : (c : Else-out) →

@@ -6,5 +6,5 @@ use Rattle.raster.proofs.put_pieces.Given as goal
 
 abbrev pub invariant-loop-n : goal.invariant-loop-n
 invariant-loop-n l =
-    Added (triangle_of Up) l.level.k (earlier (piece_size l.level.k) l.n (marked l.mask)) l.initial.rows.up l.rows.up
-    × Added (triangle_of Down) l.level.k (earlier (piece_size l.level.k) l.n (marked l.mask)) l.initial.rows.down l.rows.down
+    Added (triangle_of Up) l.mask.level.k (earlier (piece_size l.mask.level.k) l.n (marked l.mask.bytes.now)) l.initial.rows.up l.rows.up
+    × Added (triangle_of Down) l.mask.level.k (earlier (piece_size l.mask.level.k) l.n (marked l.mask.bytes.now)) l.initial.rows.down l.rows.down

@@ -16,10 +16,10 @@ pub loop-n-init : goal.loop-n-init
 loop-n-init c =
     let a = c.args in
     let k = c.clear in (
-      k.auto.mask ∙ c.requires,
-      (λ i. (c.type_inv.mask i).fits),
-      (λ x. ap (λ (l : List ℕ). marked l x) k.ensures ∙ marked_zeros (length a.mask.now) x
-          ∙ sym (earlier_none (piece_size a.level.k) (cell_lit a.level.k a.rows.now.up a.rows.now.down) x)),
+      k.auto.mask ∙ a.mask.whole,
+      (λ i. (c.type_inv.bytes i).fits),
+      (λ x. ap (λ (l : List ℕ). marked l x) k.ensures ∙ marked_zeros (length a.mask.bytes.now) x
+          ∙ sym (earlier_none (piece_size a.mask.level.k) (cell_lit a.mask.level.k a.rows.now.up a.rows.now.down) x)),
     )
 
 pub take_piece-requires : goal.take_piece-requires
@@ -27,8 +27,8 @@ take_piece-requires c =
     let a = c.args in
     let l = c.loop-n in
     record {
-      in_mask = (omega arith, l.invariant.0);
-      by_index = λ x e. l.invariant.2 x ∙ earlier_not (piece_size a.level.k) l.n (cell_lit a.level.k a.rows.now.up a.rows.now.down) x e;
+      in_mask = omega arith;
+      by_index = λ x e. l.invariant.2 x ∙ earlier_not (piece_size a.mask.level.k) l.n (cell_lit a.mask.level.k a.rows.now.up a.rows.now.down) x e;
     }
 
 pub loop-n-preserved : goal.loop-n-preserved
@@ -36,18 +36,15 @@ loop-n-preserved c =
     let a = c.args in
     let l = c.loop-n in
     let p = c.take_piece in (
-      p.auto.mask ∙ l.invariant.0,
-      (λ i. (c.type_inv.mask i).fits),
-      marked_more (piece_size a.level.k) l.n (cell_lit a.level.k a.rows.now.up a.rows.now.down) l.mask _ l.invariant.2 p.ensures,
+      p.auto.mask.0 ∙ l.invariant.0,
+      (λ i. (c.type_inv.bytes i).fits),
+      marked_more (piece_size a.mask.level.k) l.n (cell_lit a.mask.level.k a.rows.now.up a.rows.now.down) l.bytes _ l.invariant.2 p.ensures,
     )
-
-pub shape_of-mask : goal.shape_of-mask
-shape_of-mask c = c.loop-n.invariant.0 ∙ sym c.requires
 
 pub returns : goal.returns
 returns c =
     let a = c.args in
     let l = c.loop-n in
-    let A = cell_lit a.level.k a.rows.now.up a.rows.now.down in
-    let e : l.n ≡ piece_count a.level.k = omega arith in
-    settled (4 ^ a.level.k) l.mask A l.invariant.0 l.invariant.1 (λ x h. l.invariant.2 x ∙ earlier_all a.level.k l.n A x e h)
+    let A = cell_lit a.mask.level.k a.rows.now.up a.rows.now.down in
+    let e : l.n ≡ piece_count a.mask.level.k = omega arith in
+    settled (4 ^ a.mask.level.k) l.bytes A l.invariant.0 l.invariant.1 (λ x h. l.invariant.2 x ∙ earlier_all a.mask.level.k l.n A x e h)

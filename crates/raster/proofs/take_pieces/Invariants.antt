@@ -8,6 +8,6 @@ use Rattle.raster.proofs.take_pieces.Given as goal
 
 abbrev pub invariant-loop-n : goal.invariant-loop-n
 invariant-loop-n l =
-    (length l.mask ≡ 4 ^ l.level.k)
-    × Bytes l.mask
-    × ((x : ℕ) → marked l.mask x ≡ earlier (piece_size l.level.k) l.n (cell_lit l.level.k l.rows.up l.rows.down) x)
+    (length l.bytes ≡ 4 ^ l.fn.mask.level.k)
+    × Bytes l.bytes
+    × ((x : ℕ) → marked l.bytes x ≡ earlier (piece_size l.fn.mask.level.k) l.n (cell_lit l.fn.mask.level.k l.rows.up l.rows.down) x)

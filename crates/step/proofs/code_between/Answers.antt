@@ -1,5 +1,5 @@
 -- `code_between` meets its contract: both cells are of the level. Assumes nothing.
-use mathlib.Core.Path.{◌≡◌, refl, sym, ◌∙◌}
+use mathlib.Core.Path.{◌≡◌, refl, ◌∙◌}
 use Rattle.cell.specs.Cell.{place_of}
 use Rattle.cell.proofs.Answers.{Given, given_site}
 use Rattle.code.proofs.Calls.{given_code}
@@ -13,9 +13,6 @@ known : (c : In_ok-at-2) →
     let to = c.in_ok-at-2.field-0 in
     ((a.level ≡ from.level.k) × Given a.level a.from (place_of from.place)) × ((a.level ≡ to.level.k) × Given a.level a.to (place_of to.place))
 known c = (given_site _ _ _ _ c.in_ok-at.ensures, given_site _ _ _ _ c.in_ok-at-2.ensures)
-
-pub find_code-requires : goal.find_code-requires
-find_code-requires c = let g = known c in sym g.1.0 ∙ g.0.0
 
 pub returns : goal.returns
 returns c =

@@ -4,7 +4,7 @@
 use Prim.Native.Nat.{◌+◌, ◌≤◌, ◌^◌}
 use native.Mathlib.Omega.{arith}
 use Rattle.cell.specs.Cell.{span, up, down, max_level}
-use Rattle.code.specs.Step.{across, east, west, step, steps}
+use Rattle.code.specs.Step.{across, step, steps}
 use Rattle.step.proofs.Body.{rows_shifted, rows_bound, inside_less, inside_test}
 use Rattle.step.proofs.from_up.Goals as goal
 use Rattle.step.proofs.from_up.Goals.{Start}
@@ -62,12 +62,12 @@ unfolding step steps across
 returns-in-OverEquator c = simp (c.in-OverEquator.is, c.requires) c.found_if-in-OverEquator.ensures
 
 pub returns-in-OverEast : goal.returns-in-OverEast
-unfolding step steps east
-returns-in-OverEast c = rw (c.requires, c.in-OverEast.is, ← (rows_shifted c.args.from.level.k c.args.from.level.bounded)) c.found_if-in-OverEast.ensures
+unfolding step steps
+returns-in-OverEast c = rw (c.requires, c.in-OverEast.is, ← c.east.ensures, ← (rows_shifted c.args.from.level.k c.args.from.level.bounded)) c.found_if-in-OverEast.ensures
 
 pub returns-in-OverWest : goal.returns-in-OverWest
-unfolding step steps west
-returns-in-OverWest c = rw (c.requires, c.in-OverWest.is, ← (rows_shifted c.args.from.level.k c.args.from.level.bounded)) c.found_if-in-OverWest.ensures
+unfolding step steps
+returns-in-OverWest c = rw (c.requires, c.in-OverWest.is, ← c.west.ensures, ← (rows_shifted c.args.from.level.k c.args.from.level.bounded)) c.found_if-in-OverWest.ensures
 
 pub overflow_add-end : goal.overflow_add-end
 overflow_add-end c = omega (arith, room (goal.at.overflow_add-end c).Start)

@@ -2,10 +2,10 @@
 use Prim.Native.Nat.{◌^◌, ◌<◌}
 use mathlib.Core.Path.{sym, ◌∙◌}
 use native.Mathlib.Omega.{arith}
-use borrow.Author.Tests.{eqb-true, eqb-false}
+use borrow.Author.Tests.{eqb-true}
 use Rattle.border.specs.Stored.{value_of, code_bytes}
 use Rattle.border.proofs.Digits.{value_below}
-use Rattle.border_reader.proofs.Bits.{not_padded, padded}
+use Rattle.border_reader.proofs.Bits.{padded}
 use Rattle.border_reader.proofs.codes.is_padded.Goals as goal
 use Rattle.border_reader.proofs.codes.is_padded.Goals.{After-code_at, then-code_at-eq0, else-code_at-eq0}
 
@@ -21,13 +21,4 @@ returns-then-code_at-eq0-2 c = elim c.if-code_at-eq0.branch [
       padded _ _ _ (said (goal.at.returns-then-code_at-eq0-2 c).After-code_at) (sym c.code_at.ensures ∙ w.if-code_at-eq0.true)
       (sym w.code_at-then-code_at-eq0.ensures ∙ eqb-true _ 0 (sym w.value-is ∙ c.if-code_at-eq0-2.true)) c.code_at-then-code_at-eq0-2.ensures
   | else-code_at-eq0 w ↦ absurd (w.if-code_at-eq0.false (eqb-true _ 0 (sym w.value-is ∙ c.if-code_at-eq0-2.true)))
-]
-
-pub returns-else-code_at-eq0-2 : goal.returns-else-code_at-eq0-2
-returns-else-code_at-eq0-2 c = elim c.if-code_at-eq0.branch [
-  | then-code_at-eq0 w ↦
-      let differs = eqb-false _ 0 (sym w.value-is ∙ c.if-code_at-eq0-2.false) in
-      c.if-code_at-eq0-2.false ∙ sym (not_padded _ _ _ (omega arith) (λ z. differs (w.code_at-then-code_at-eq0.ensures ∙ z)))
-  | else-code_at-eq0 w ↦
-      c.if-code_at-eq0-2.false ∙ sym (not_padded _ _ _ (omega arith) (λ z. w.if-code_at-eq0.false (c.code_at.ensures ∙ z)))
 ]

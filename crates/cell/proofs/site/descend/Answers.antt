@@ -15,15 +15,6 @@ use Rattle.cell.proofs.site.descend.Goals.{After-odd_from-downs}
 side : (k : ℕ) → k ≤ max_level → 1 * 2 ^ k % 2 ^ 32 ≡ 2 ^ k
 side k h = shifted 32 k (omega arith)
 
-side-pos : (k : ℕ) → k ≤ max_level → 0 < 1 * 2 ^ k % 2 ^ 32
-side-pos k h = rw (side k h) (pow_pos k)
-
-pub nonzero_rem-high : goal.nonzero_rem-high
-nonzero_rem-high c = side-pos c.args.level.k c.args.level.bounded
-
-pub nonzero_rem-low : goal.nonzero_rem-low
-nonzero_rem-low c = side-pos c.args.level.k c.args.level.bounded
-
 -- what the bits are made of fits the level's
 bounds : (h l k : ℕ) → k ≤ max_level →
     let n = 1 * 2 ^ k % 2 ^ 32 in
@@ -56,6 +47,3 @@ pub returns-else-downs-eq0 : goal.returns-else-downs-eq0
 returns-else-downs-eq0 c =
     let odd : c.odd_from-downs.result % 2 ≡ 1 = omega arith in
     sym (rw odd at (led (goal.at.returns-else-downs-eq0 c).After-odd_from-downs))
-
-pub overflow_sub-all : goal.overflow_sub-all
-overflow_sub-all c = side-pos c.args.level.k c.args.level.bounded

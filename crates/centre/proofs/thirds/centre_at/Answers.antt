@@ -32,13 +32,13 @@ pub latitude_of-requires : goal.latitude_of-requires
 latitude_of-requires c =
     let p = c.args.site.place in
     let known = middle c.args.site.level.k p _ (c.thirds_of-s.ensures p.row p.col) (c.args.site.level.bounded, c.args.site.occurs) in
-    rw c.centre_p-p.ensures known.low
+    omega (arith, c.centre_p-p.ensures, known.low)
 
 pub longitude_of-requires : goal.longitude_of-requires
 longitude_of-requires c =
     let p = c.args.site.place in
     let known = middle c.args.site.level.k p _ (c.thirds_of-s.ensures p.row p.col) (c.args.site.level.bounded, c.args.site.occurs) in
-    rw (c.centre_m-m.ensures, c.centre_p-p.ensures) known.east
+    omega (arith, rw c.centre_p-p.ensures at c.centre_m-m.ensures, c.centre_p-p.ensures, known.low, known.east)
 
 pub returns : goal.returns
 unfolding centre

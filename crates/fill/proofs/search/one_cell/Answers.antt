@@ -6,7 +6,6 @@ use Rattle.fill.proofs.search.one_cell.Goals as goal
 pub returns : goal.returns
 returns c =
     let a = c.args in
-    let h = c.requires in
-    let n = c.mark.auto.mask ∙ c.clear.auto.mask ∙ h.0 in
-    let m = one_marks a.level.k a.cell a.out.now _ _ h.1 h.0 c.clear.ensures c.mark.ensures in
-    in_rows_lem a.level.k _ _ a.rows.now.up a.rows.now.down _ _ a.level.bounded n (λ i l. m i) c.to_rows.ensures.ups c.to_rows.ensures.downs
+    let n = c.mark.auto.mask ∙ c.clear.auto.mask ∙ c.requires in
+    let m = one_marks a.cell.level.k a.cell.number a.out.now _ _ a.cell.below c.requires c.clear.ensures c.mark.ensures in
+    in_rows_lem a.cell.level.k _ _ a.rows.now.up a.rows.now.down _ _ a.cell.level.bounded n (λ i l. m i) c.to_rows.ensures.ups c.to_rows.ensures.downs

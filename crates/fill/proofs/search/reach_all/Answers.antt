@@ -11,5 +11,5 @@ returns c =
     let h = c.requires in
     let n = c.one_cell.auto.out ∙ c.open_cells.auto.out ∙ h.1 in
     c.from_rows.ensures
-    ∙ rw (is_mask_lem a.level.k _ a.level.bounded n)
-    (reached_rows a.level.k a.outside (marked a.border.now) a.level.bounded h.2 _ _ _ _ _ _ c.open_cells.ensures c.one_cell.ensures c.flood.ensures)
+    ∙ rw (is_mask_lem a.outside.level.k _ a.outside.level.bounded n)
+    (reached_rows a.outside.level.k a.outside.number (marked a.border.now) a.outside.level.bounded a.outside.below _ _ _ _ _ _ c.open_cells.ensures c.one_cell.ensures c.flood.ensures)

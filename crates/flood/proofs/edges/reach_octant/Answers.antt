@@ -1,29 +1,17 @@
 -- `reach_octant` meets its contract. The invariant: the edges in the rows and columns before n are passed. Assumes nothing.
-use Prim.Native.Nat.{ℕ, ◌*◌, ◌%◌, ◌^◌, ◌≤◌}
+use Prim.Native.Nat.{ℕ, ◌*◌, ◌%◌, ◌^◌}
 use mathlib.Core.Path.{◌≡◌, subst}
 use native.Mathlib.Omega.{arith}
-use Rattle.rows.proofs.Spots.{size_shifted, size_low}
+use Rattle.rows.proofs.Spots.{size_shifted}
 use Rattle.flood.specs.Flood.{Edges, EdgesOf}
 use Rattle.flood.specs.inside.Turns.{Turn}
-use Rattle.flood.proofs.Crossing.{turn_start, turn_next}
+use Rattle.flood.proofs.Crossing.{turn_next}
 use Rattle.flood.proofs.edges.reach_octant.Goals as goal
 use Rattle.flood.proofs.edges.reach_octant.Goals.{Start}
 
 -- N as the code shifts it, and that it is small
 size : (e : Start) → 1 * 2 ^ e.args.level.k % 2 ^ 32 ≡ 2 ^ e.args.level.k
 size e = size_shifted e.args.level.k e.args.level.bounded
-
-low : (e : Start) → 2 ^ e.args.level.k ≤ 256
-low e = size_low e.args.level.k e.args.level.bounded
-
-pub loop-n-init : goal.loop-n-init
-loop-n-init c =
-    let a = c.args in
-    λ od d. turn_start (Edges a.level.k a.octant) a.open_up.now od a.up.now d
-
-pub reach_edges-changed-requires : goal.reach_edges-changed-requires
-reach_edges-changed-requires c =
-    (c.requires, omega (arith, size (goal.at.reach_edges-changed-requires c).Start))
 
 pub loop-n-preserved : goal.loop-n-preserved
 loop-n-preserved c =

@@ -4,16 +4,8 @@ use mathlib.Core.Path.{◌≡◌, subst}
 use native.Mathlib.Omega.{arith}
 use Rattle.flood.specs.Flood.{EdgesOf, Over}
 use Rattle.flood.specs.inside.Turns.{Turn}
-use Rattle.flood.proofs.Crossing.{turn_start, turn_next}
+use Rattle.flood.proofs.Crossing.{turn_next}
 use Rattle.flood.proofs.edges.reach_over.Goals as goal
-
-pub loop-octant-init : goal.loop-octant-init
-loop-octant-init c =
-    let a = c.args in
-    λ od d. turn_start (λ o. EdgesOf a.level.k o (2 ^ a.level.k)) a.open_up.now od a.up.now d
-
-pub reach_octant-changed-requires : goal.reach_octant-changed-requires
-reach_octant-changed-requires c = omega arith
 
 pub loop-octant-preserved : goal.loop-octant-preserved
 loop-octant-preserved c =

@@ -2,12 +2,8 @@
 use mathlib.Core.Path.{◌≡◌}
 use native.Mathlib.Omega.{arith}
 use Rattle.rows.specs.Rows.{cells_end}
-use Rattle.flood.proofs.Turns.{turn_none}
 use Rattle.flood.proofs.Joining.{turn_words}
 use Rattle.flood.proofs.words.go_forward.Goals as goal
-
-pub loop-at-init : goal.loop-at-init
-loop-at-init c = turn_none (λ s t i j m l o. absurd (omega (arith, m.1, m.2)))
 
 pub loop-at-preserved : goal.loop-at-preserved
 loop-at-preserved c =

@@ -9,7 +9,7 @@ use Rattle.flood.proofs.words.near_up.Goals as goal
 pub returns : goal.returns
 unfolding near_up
 returns c =
-    let at = c.args.at in
+    let at = c.args.word.at in
     let five : at ≡ at - 5 + 5 = omega arith in
     let one : at ≡ at - 1 + 1 = omega arith in
     let d = c.args.down.now in

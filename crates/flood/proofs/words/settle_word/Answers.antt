@@ -8,7 +8,7 @@ returns-then-reached-at-2 c =
     let a = c.args in
     let o = a.opened.now in
     let r = a.reached.now in
-    turn_none (full_closed a.at o.up o.down r.up r.down c.if-reached-at.true c.if-reached-at-2.true)
+    turn_none (full_closed a.word.at o.up o.down r.up r.down c.if-reached-at.true c.if-reached-at-2.true)
 
 pub returns-then-not-reach_word-2 : goal.returns-then-not-reach_word-2
 returns-then-not-reach_word-2 c = turn_more c.if-not-reach_word.ensures (added_more c.loop.invariant c.reach_word-in-loop.ensures.added)

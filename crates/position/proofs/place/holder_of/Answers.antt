@@ -10,16 +10,18 @@ use Rattle.position.proofs.place.holder_of.Goals.{After-rows_of-n}
 
 pub returns-then-high-r-lt-SQUARE : goal.returns-then-high-r-lt-SQUARE
 returns-then-high-r-lt-SQUARE c =
-    let s = c.share_of-r.ensures in
-    let a = c.args in
+    let a = c.args.at in
     let n = c.rows_of-n in
+    let whole = rw (← n.ensures.0) at c.share_of-r.ensures.whole in
+    let left = rw (← n.ensures.0) at c.share_of-r.ensures.rest in
     let rest = n.result * a.p % q * q + n.result * (a.m * (q - a.p)) % (q * q) in
-    rw (holder-at a.level.k a.p a.m n.result n.ensures.0, s.whole, lt-ltb rest (q * q) (omega (arith, c.if-high-r-lt-SQUARE.true, s.rest)))
+    rw (holder-at c.args.level.k a.p a.m n.result n.ensures.0, whole, lt-ltb rest (q * q) (omega (arith, c.if-high-r-lt-SQUARE.true, left)))
 
 pub returns-else-high-r-lt-SQUARE : goal.returns-else-high-r-lt-SQUARE
 returns-else-high-r-lt-SQUARE c =
-    let s = c.share_of-r.ensures in
-    let a = c.args in
+    let a = c.args.at in
     let n = c.rows_of-n in
+    let whole = rw (← n.ensures.0) at c.share_of-r.ensures.whole in
+    let left = rw (← n.ensures.0) at c.share_of-r.ensures.rest in
     let rest = n.result * a.p % q * q + n.result * (a.m * (q - a.p)) % (q * q) in
-    rw (holder-at a.level.k a.p a.m n.result n.ensures.0, s.whole, le-ltb rest (q * q) (omega (arith, c.if-high-r-lt-SQUARE.false, s.rest)))
+    rw (holder-at c.args.level.k a.p a.m n.result n.ensures.0, whole, le-ltb rest (q * q) (omega (arith, c.if-high-r-lt-SQUARE.false, left)))

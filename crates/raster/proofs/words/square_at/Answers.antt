@@ -5,25 +5,19 @@ use mathlib.Core.Bool.{Bool}
 use native.Mathlib.Omega.{arith}
 use Rattle.bitset.specs.Bits.{bit}
 use Rattle.rows.specs.Rows.{lit}
-use Rattle.raster.proofs.Joined.{bits_none, bits_more, bits_all}
+use Rattle.raster.proofs.Joined.{bits_none, bits_more}
 use Rattle.raster.proofs.words.square_at.Goals as goal
 
 pub loop-x-init : goal.loop-x-init
-loop-x-init c = let a = c.args in bits_none (λ p. lit a.words.now (8 * (a.slot + 40 * (p / 8)) + p % 8))
-
-pub returns : goal.returns
-returns c =
-    let a = c.args in
-    let l = c.loop-x in
-    bits_all (λ p. lit a.words.now (8 * (a.slot + 40 * (p / 8)) + p % 8)) l.x l.square (omega arith) l.invariant
+loop-x-init c = let a = c.args in bits_none (λ p. lit a.words.now (8 * (a.slot.byte + 40 * (p / 8)) + p % 8))
 
 pub loop-x-preserved : goal.loop-x-preserved
 loop-x-preserved c =
     let a = c.args in
     let l = c.loop-x in
     let b = c.byte_at in
-    let F : ℕ → Bool = λ p. lit a.words.now (8 * (a.slot + 40 * (p / 8)) + p % 8) in
+    let F : ℕ → Bool = λ p. lit a.words.now (8 * (a.slot.byte + 40 * (p / 8)) + p % 8) in
     let at : (r : ℕ) → r < 8 → bit b.result r ≡ F (8 * l.x + r) = λ r h.
-    let e : 8 * (a.slot + 40 * l.x) + r ≡ 8 * (a.slot + 40 * ((8 * l.x + r) / 8)) + (8 * l.x + r) % 8 = omega arith in
+    let e : 8 * (a.slot.byte + 40 * l.x) + r ≡ 8 * (a.slot.byte + 40 * ((8 * l.x + r) / 8)) + (8 * l.x + r) % 8 = omega arith in
     b.ensures.bits r h ∙ ap (lit a.words.now) e in
     bits_more F l.x l.square b.result (omega arith) b.ensures.small l.invariant at

@@ -12,8 +12,8 @@ unfolding down_of
 returns c =
     let a = c.args in
     let s = a.points.now in
-    let next = word_next {w = a.w} refl (word_read s (a.w + 5) c.word-next.ensures) in
-    let here = word_read s a.w c.word.ensures in
-    let back = word_back refl c.one_back-back.ensures here (word_read s (a.w + 1) c.word-2.ensures) in
-    let both = word_back refl c.one_back-both.ensures next (word_next (omega arith) (word_read s (a.w + 6) c.word-3.ensures)) in
+    let next = word_next {w = a.cells.at} refl (word_read s (a.cells.at + 5) c.word-next.ensures) in
+    let here = word_read s a.cells.at c.word.ensures in
+    let back = word_back refl c.one_back-back.ensures here (word_read s (a.cells.at + 1) c.word-2.ensures) in
+    let both = word_back refl c.one_back-both.ensures next (word_next (omega arith) (word_read s (a.cells.at + 6) c.word-3.ensures)) in
     word_or next (word_or back (word_same (λ i h. ap (lit s) (omega arith)) both))

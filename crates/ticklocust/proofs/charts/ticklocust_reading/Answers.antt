@@ -4,5 +4,5 @@ use lib.Ieee as Ieee
 use Rattle.ticklocust.proofs.charts.ticklocust_reading.Goals as goal
 
 pub returns-in-Ok-Gap : goal.returns-in-Ok-Gap
-unfolding Ieee.of_bits Ieee.div
+unfolding Ieee.of_bits
 returns-in-Ok-Gap c = rw (← c.reading_of.ensures, c.in-Ok-Gap.is, c.in-Ok-Gap.field-0-is) refl

@@ -4,17 +4,12 @@ use mathlib.Core.Path.{◌≡◌, ◌∙◌}
 use native.Mathlib.Nat.{le_refl}
 use native.Mathlib.Omega.{arith}
 use lib.Bits.{or_shifted, xor_lt, and_lt, or_lt}
-use lib.Pow.{pow_pos, pow_mono, ones_lt, shl_exact}
+use lib.Pow.{pow_mono, ones_lt, shl_exact}
 use Rattle.cell.specs.Cell.{place_of, span, digits, number, max_level}
 use Rattle.cell.proofs.Laws.{shifted, shift_four, triangle_bounds, digits_below}
 use Rattle.cell.proofs.DigitBits.{digits_bits_16}
 use Rattle.cell.proofs.site.Site.number.Goals as goal
 use Rattle.cell.proofs.site.Site.number.Goals.{After-span_of}
-
-pub overflow_sub-all : goal.overflow_sub-all
-overflow_sub-all c =
-    let k = c.args.self.level.k in
-    rw (shifted 64 k (omega arith)) (pow_pos k)
 
 -- what the bits are made of fits 16 bits
 record Small (c : After-span_of) : Type 0 where

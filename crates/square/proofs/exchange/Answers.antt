@@ -1,8 +1,0 @@
--- `exchange` meets its contract, by its definition. Assumes nothing.
-use mathlib.Core.Path.{refl}
-use Rattle.square.specs.inside.Words.{value}
-use Rattle.square.proofs.exchange.Goals as goal
-
-pub returns : goal.returns
-unfolding value
-returns c = refl
