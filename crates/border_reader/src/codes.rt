@@ -5,7 +5,7 @@ ghost use Rattle.border.specs.Border.{max_codes};
 
 use border::digit;
 
-// Code i: eight codes take three bytes, and one code lies in one byte or in two.
+// Code i: eight codes take three bytes, and one code lies in one byte or in two. The writer's `Codes::byte` goes the other way, and says why they are two.
 #[tactic(auto, using(crate::proofs::Bits::code_in))]
 pub(crate) fn code_at(bytes: &[u8], i: usize) -> u8
     requires { i ≤ 8192 }

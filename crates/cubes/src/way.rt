@@ -89,7 +89,8 @@ impl Way {
     }
 }
 
-// Whether the sums along a way fit: a corner is shared, and the next cube is that of a cell. The bounds are those of one sum of three digits.
+// Whether the sums along a way fit: a corner is shared, and the next cube is that of a cell. The bounds of lo and off are
+// those of one sum of three digits; that of the room stands in one chain of three calls: add_along, are_touching, sums_fit.
 #[tactic(auto, unfolding(adjacency::specs::Cube::sums_fit))]
 fn sums_fit(room: u32, lo: u32, hi: u32, off: u32) -> bool
     requires { (room ≤ 2) × (lo ≤ 3) × (off ≤ 3) }
@@ -125,7 +126,7 @@ impl Ways {
         requires { room ≤ 2 }
         ensures { result ≡ touching_way room cube self.number }
     {
-        // Still on every axis: the cell's own cube.
+        // Still on every axis: the cell's own cube. A number of the 27, as the ways are counted by it.
         if self.number == 13 {
             return false;
         }

@@ -69,7 +69,7 @@ pub fn count(level: u32, mask: &[u8]) -> Result<u32, Refusal>
 }
 
 // The lowest cell that mask a marks and mask b does not.
-// A byte scan with a bit scan inside: a labelled break leaves both loops at the first cell of a that b lacks.
+// This form is asked for: a byte scan with a bit scan inside, and a labelled break that leaves both loops at the first cell of a that b lacks.
 fn first_lacking(a: &[u8], b: &[u8]) -> Option<CellNumber>
     requires { (length a.now ≤ 4 ^ max_mask_level) × (length b.now ≡ length a.now) }
     ensures { inclusion_of result ≡ lowest (difference (marked a.now) (marked b.now)) (8 * length a.now) 0 }
