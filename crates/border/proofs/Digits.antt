@@ -2,12 +2,13 @@
 use Prim.Native.Nat.{ℕ, zero, suc, ◌+◌, ◌*◌, ◌/◌, ◌%◌, ◌^◌, ◌<◌}
 use mathlib.Core.Path.{◌≡◌, refl, sym, ap, ap₂, ◌∙◌}
 use mathlib.Core.List.{List, [], ◌∷◌}
-use native.Mathlib.Nat.{pow-zero, pow-suc, mul_comm, div-div-eq-div-mul, div-one, zero-div, zero-add, mul-zero, mul-suc, mod-lt, mod-add-div}
+use native.Mathlib.Nat.{div-add-mod, pow-zero, pow-suc, mul_comm, div-div-eq-div-mul, div-one, zero-div, zero-add, mul-zero, mul-suc, mod-lt, mod-add-div}
 use native.Mathlib.Nat.{add-mul-div_left, add-mul-mod_self_left, div-eq_of_lt, mod-eq_of_lt, div-lt_iff_lt-mul, mul-le-mul_left}
 use native.Mathlib.Omega.{arith}
 use lib.ListN.{length, drop, get_or}
 use lib.Pow.{pow-add}
-use lib.Seq.{drop-cons}
+use lib.Seq.{drop-cons, get_or-drop}
+use Rattle.std.proofs.lemmas.List.{drop-drop}
 use Rattle.border.specs.Stored.{digits_of, value_of}
 
 pub length_digits : (b n v : ℕ) → length (digits_of b n v) ≡ n
@@ -62,6 +63,10 @@ value_drop b (d ∷ ds) (suc j) h =
     ∙ ap (λ (x : ℕ). x / b ^ j) (low_left b d (value_of b ds) (h 0))
     ∙ value_drop b ds j (λ i. h (suc i))
 
+-- which begins with that digit
+pub value_from : (b : ℕ) (ds : List ℕ) (i : ℕ) → value_of b (drop i ds) ≡ get_or ds i 0 + b * value_of b (drop (i + 1) ds)
+value_from b ds i = let e : i + 0 ≡ i = omega arith in value_first b (drop i ds) ∙ rw (get_or-drop, drop-drop, e)
+
 -- n digits say a number below b^n
 pub value_below : (b : ℕ) (ds : List ℕ) → ((i : ℕ) → get_or ds i 0 < b) → value_of b ds < b ^ length ds
 unfolding value_of
@@ -93,3 +98,13 @@ value_digits b (suc n) v g h =
 pub pow_pow : (b m n : ℕ) → (b ^ m) ^ n ≡ b ^ (m * n)
 pow_pow b m zero = rw (mul-zero m, pow-zero b, pow-zero (b ^ m))
 pow_pow b m (suc n) = rw (mul-suc m n, pow-add b (m * n) m, pow-suc (b ^ m) n, pow_pow b m n)
+
+-- a number from its digit i of a bits on, by its digits of b bits: from the one in which that digit begins, and from the bit in it on
+pub from_digit : (a b v i : ℕ) → v / (2 ^ a) ^ i ≡ v / (2 ^ b) ^ (a * i / b) / 2 ^ (a * i % b)
+from_digit a b v i =
+    ap (λ (x : ℕ). v / x)
+    (pow_pow 2 a i
+    ∙ ap (λ (n : ℕ). 2 ^ n) (sym (div-add-mod (a * i) b))
+    ∙ pow-add 2 (b * (a * i / b)) (a * i % b)
+    ∙ ap (λ (x : ℕ). x * 2 ^ (a * i % b)) (sym (pow_pow 2 b (a * i / b))))
+    ∙ sym (div-div-eq-div-mul v ((2 ^ b) ^ (a * i / b)) (2 ^ (a * i % b)))

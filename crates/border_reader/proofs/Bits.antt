@@ -1,7 +1,7 @@
 -- Codes of three bits in bytes of eight: one code, and the bits after the last. Assumes nothing.
 use Prim.Native.Nat.{ℕ, ◌+◌, ◌*◌, ◌/◌, ◌%◌, ◌^◌, ◌≤◌, ◌<◌}
 use mathlib.Core.Bool.{Bool, true, false}
-use mathlib.Core.Path.{◌≡◌, refl, sym, ap, ap₂, ◌∙◌}
+use mathlib.Core.Path.{◌≡◌, refl, sym, ap, ◌∙◌}
 use mathlib.Core.List.{List}
 use native.Mathlib.Nat.{div-div-eq-div-mul, div-eq_of_lt, div-lt_iff_lt-mul, one-le-pow, pow-le-pow_right, mod-eq_of_lt}
 use native.Mathlib.Omega.{arith}
@@ -9,10 +9,9 @@ use borrow.Author.Tests.{ltb-true, lt-ltb, eqb-true, eqb-false}
 use lib.Dec.{ltb, eqb}
 use lib.ListN.{drop, get_or}
 use lib.Pow.{pow-add}
-use lib.Seq.{get_or-drop}
 use Rattle.code.proofs.Laws.{code_cases}
 use Rattle.border.specs.Stored.{value_of, code_bytes}
-use Rattle.border.proofs.Digits.{value_first, value_drop, pow_pow}
+use Rattle.border.proofs.Digits.{value_from, value_drop, from_digit, pow_pow}
 
 -- ---- one code
 
@@ -30,35 +29,15 @@ in_two x y r =
     (λ h. omega arith)
     (λ s h. absurd (omega arith))
 
--- a number from code i on is what its bytes from the byte where that code begins say, from the bit in that byte on
-from_code : (v i : ℕ) → v / 8 ^ i ≡ v / 256 ^ (3 * i / 8) / 2 ^ (3 * i % 8)
-from_code v i =
-    let s : 3 * i ≡ 8 * (3 * i / 8) + 3 * i % 8 = omega arith in
-    ap (λ (x : ℕ). v / x)
-    (pow_pow 2 3 i
-    ∙ ap (λ (n : ℕ). 2 ^ n) s
-    ∙ pow-add 2 (8 * (3 * i / 8)) (3 * i % 8)
-    ∙ ap (λ (x : ℕ). x * 2 ^ (3 * i % 8)) (sym (pow_pow 2 8 (3 * i / 8))))
-    ∙ sym (div-div-eq-div-mul v (256 ^ (3 * i / 8)) (2 ^ (3 * i % 8)))
-
--- the number that bytes say from byte j on begins with that byte and the next
-two_first : (bs : List ℕ) (j : ℕ) →
-    value_of 256 (drop j bs) ≡ get_or bs j 0 + 256 * (get_or bs (j + 1) 0 + 256 * value_of 256 (drop 1 (drop 1 (drop j bs))))
-two_first bs j =
-    let first : get_or (drop j bs) 0 0 ≡ get_or bs j 0 = get_or-drop j bs 0 0 ∙ ap (λ (n : ℕ). get_or bs n 0) (omega arith) in
-    let second : get_or (drop 1 (drop j bs)) 0 0 ≡ get_or bs (j + 1) 0 = get_or-drop 1 (drop j bs) 0 0 ∙ get_or-drop j bs 1 0 in
-    value_first 256 (drop j bs)
-    ∙ ap₂ (λ (x y : ℕ). x + 256 * y) first
-    (value_first 256 (drop 1 (drop j bs)) ∙ ap (λ (x : ℕ). x + 256 * value_of 256 (drop 1 (drop 1 (drop j bs)))) second)
-
 -- code i
 pub code_in : (bs : List ℕ) (i : ℕ) → ((i : ℕ) → get_or bs i 0 < 256) →
     (get_or bs (3 * i / 8) 0 + 256 * get_or bs (3 * i / 8 + 1) 0) / 2 ^ (3 * i % 8) % 8 ≡ value_of 256 bs / 8 ^ i % 8
 code_in bs i h =
     let j = 3 * i / 8 in
-    sym (in_two (get_or bs j 0) (get_or bs (j + 1) 0) (value_of 256 (drop 1 (drop 1 (drop j bs)))) (3 * i % 8) (omega arith))
-    ∙ ap (λ (x : ℕ). x / 2 ^ (3 * i % 8) % 8) (sym (two_first bs j) ∙ sym (value_drop 256 bs j h))
-    ∙ ap (λ (x : ℕ). x % 8) (sym (from_code (value_of 256 bs) i))
+    sym (in_two (get_or bs j 0) (get_or bs (j + 1) 0) (value_of 256 (drop (j + 1 + 1) bs)) (3 * i % 8) (omega arith))
+    ∙ ap (λ (x : ℕ). x / 2 ^ (3 * i % 8) % 8)
+    (ap (λ (x : ℕ). get_or bs j 0 + 256 * x) (sym (value_from 256 bs (j + 1))) ∙ sym (value_from 256 bs j) ∙ sym (value_drop 256 bs j h))
+    ∙ ap (λ (x : ℕ). x % 8) (sym (from_digit 3 8 (value_of 256 bs) i))
 
 -- ---- the bits after n codes
 

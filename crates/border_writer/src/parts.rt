@@ -1,10 +1,10 @@
 // The cells of a border tested, the codes between them found, and the bytes put.
-ghost use Rattle.std.specs.Prelude.{false, [], ◌∷◌, ◌≡◌, ℕ, ◌+◌, ◌<◌, ◌≤◌, OnOk, length, get_or};
+ghost use Rattle.std.specs.Prelude.{false, [], ◌∷◌, ◌≡◌, ◌+◌, ◌<◌, OnOk, length};
 ghost use Rattle.refusal.specs.Answer.{done, in_order};
 ghost use Rattle.refusal.specs.Refusal.{said, said_done};
 ghost use Rattle.cell.specs.Cell.{cells as cellsOfLevel};
 ghost use Rattle.code.specs.Step.{bad_step, found_or};
-ghost use Rattle.border.specs.Border.{max_codes, any_from, codes_of};
+ghost use Rattle.border.specs.Border.{any_from, codes_of};
 ghost use Rattle.border_writer.specs.inside.Parts.{write_on};
 
 use crate::codes::Codes;

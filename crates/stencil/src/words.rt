@@ -1,5 +1,5 @@
 // One word of each set that is written: its 64 bits from words of the sets that are read.
-ghost use Rattle.std.specs.Prelude.{◌≡◌, ℕ, ◌≤◌, ◌<◌, ltb, length, set};
+ghost use Rattle.std.specs.Prelude.{◌≡◌, ℕ, ◌≤◌, ◌<◌, ltb};
 ghost use Rattle.bitset.specs.Bits.{bit};
 ghost use Rattle.rows.specs.Rows.{lit, word_count, first_word, inside};
 ghost use Rattle.rows.specs.Words.{WordOf};

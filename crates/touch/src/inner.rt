@@ -1,5 +1,5 @@
 // Cells away from their octant's edges: twelve ways lead to their touching cells, and the octant stays.
-ghost use Rattle.std.specs.Prelude.{◌≡◌, true, ℕ, ◌*◌, ◌/◌, ◌%◌, ◌^◌, ◌<◌, ◌≤◌, get_or};
+ghost use Rattle.std.specs.Prelude.{◌≡◌, true, ℕ, ◌^◌, ◌<◌, ◌≤◌, get_or};
 ghost use Rattle.cell.specs.Cell.{place_of};
 ghost use Rattle.touch.specs.inside.Inner.{is_inner, inner_way, inner_step, other, stepped, inner_cell};
 

@@ -1,7 +1,7 @@
 // The numbers of a stored border: docs/RULES.md, 8. Groups of seven bits, low group first.
 #![tactic(auto)]
 
-ghost use Rattle.std.specs.Prelude.{◌≡◌, length, drop};
+ghost use Rattle.std.specs.Prelude.{◌≡◌, length};
 ghost use Rattle.varint.specs.Varint.{numeral, valued, read_call, write_call};
 ghost use Rattle.refusal.specs.Refusal.{said};
 
