@@ -143,7 +143,10 @@ fn joins(from: Site, to: Site, code: Code) -> bool
     requires { to.level.k ≡ from.level.k }
     ensures { result ≡ leads_to from.level.k (number from.level.k (place_of to.place)) (step from.level.k (place_of from.place) (code_of code)) }
 {
-    target_of(from, code) == Some(to.place)
+    match target_of(from, code) {
+        Some(target) => target == to.place,
+        None => false,
+    }
 }
 
 // The code along which a step leads from one cell to another of its level. Numbers are counted and no codes, since the number is what is answered.

@@ -7,7 +7,7 @@ use cell::{CellNumber, Kind, Place, Site};
 
 // The twelve ways of an up cell: its steps on the axis of the row and on that of the column, 1 for none, and whether the kind changes. A down cell's steps
 // are the opposite ones. The steps are added, less one, and are no kinds.
-const WAYS: [(u32, u32, bool); 12] = [
+static WAYS: [(u32, u32, bool); 12] = [
     (0, 0, true),
     (0, 1, true),
     (0, 1, false),

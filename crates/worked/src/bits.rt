@@ -3,7 +3,7 @@ use crate::temperature::DECIMALS;
 use std::fmt;
 use std::fmt::Display;
 
-pub const NAN: u32 = 0x7fc0_0000;
+const NAN: u32 = 0x7fc0_0000;
 
 const INFINITY: u32 = 0x7f80_0000;
 
@@ -11,6 +11,12 @@ const SIGN: u32 = 0x8000_0000;
 
 #[derive(Clone, Copy)]
 pub struct Bits(pub u32);
+
+impl Bits {
+    pub fn of(t: f32) -> Bits {
+        Bits(if t.is_nan() { NAN } else { t.to_bits() })
+    }
+}
 
 // How many eighths a float, or the one next to it, is, by its bits but for the sign; none where they are not between an eighth and 2^21.
 fn eighths(size: u32) -> Option<u32> {

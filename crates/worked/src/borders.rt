@@ -1,6 +1,7 @@
 // Stored borders.
 use crate::args::Args;
 use crate::fault::Fault;
+use crate::name::Names;
 use crate::words::Word;
 use border_reader::Border;
 use std::fmt::Write;
@@ -21,11 +22,12 @@ pub fn read(args: &mut Args<'_>, out: &mut String) -> Result<(), Fault> {
     }
     let mut cells = vec![in args.alloc; 0u32; room]?;
     let Border { level, count } = border_reader::read(&bytes, &mut cells)?;
-    let style = args.style.at(level);
-    write!(out, "level {level}:")?;
-    for cell in cells.iter().take(count as usize) {
-        write!(out, " {}", style.name(*cell))?;
-    }
+    cells.truncate(count as usize);
+    let names = Names {
+        cells: &cells,
+        style: args.style.at(level),
+    };
+    write!(out, "level {level}:{names}")?;
     Ok(())
 }
 

@@ -19,8 +19,8 @@ enum Turn {
 }
 
 // For each code and each digit; none where there is no such step. T, E and W leave the octant: there is such a step where t, r or l would go on past
-// the first digit.
-const TURNS: [[Option<Turn>; 4]; 8] = [
+// the first digit. A static, since a constant would be built anew for each cell.
+static TURNS: [[Option<Turn>; 4]; 8] = [
     [Some(Last(1)), Some(Last(0)), Some(On(2)), Some(On(3))],
     [Some(Last(2)), Some(On(3)), Some(On(1)), Some(Last(0))],
     [Some(Last(3)), Some(On(2)), Some(Last(0)), Some(On(1))],
@@ -32,7 +32,7 @@ const TURNS: [[Option<Turn>; 4]; 8] = [
 ];
 
 // The octants to which T, E and W lead from each.
-const OCTANTS: [[u32; 8]; 3] = [
+static OCTANTS: [[u32; 8]; 3] = [
     [4, 5, 6, 7, 0, 1, 2, 3],
     [1, 2, 3, 0, 5, 6, 7, 4],
     [3, 0, 1, 2, 7, 4, 5, 6],
@@ -42,7 +42,7 @@ const OCTANTS: [[u32; 8]; 3] = [
 fn by_digits(level: u32, cell: u32, code: u8) -> Option<u32>
     requires { level ≤ 6 }
 {
-    let turns = TURNS[(code % 8) as usize];
+    let turns = &TURNS[(code % 8) as usize];
     let mut rest = cell;
     let mut digits = 0;
     for i in 0..level {

@@ -2,10 +2,12 @@
 use crate::answer::Answer;
 use crate::args::Args;
 use crate::fault::Fault;
+use crate::name::Style;
 use crate::words::Word;
 use refusal::Refusal;
 use std::alloc::Global;
-use std::fmt::Write;
+use std::fmt;
+use std::fmt::{Display, Write};
 
 // The bytes of a mask of level 8, and one more.
 const BYTES: usize = 65537;
@@ -47,13 +49,33 @@ fn empty(args: &Args<'_>, level: u32) -> Result<Vec<u8>, Fault> {
     Ok(vec![in args.alloc; 0; size_of(level)]?)
 }
 
+// The names of the marked cells of a mask, with a space before each.
+#[derive(Clone, Copy)]
+struct MarkedNames<'a> {
+    level: u32,
+    mask: &'a [u8],
+    style: Style,
+}
+
+impl Display for MarkedNames<'_> {
+    fn fmt<W: fmt::Write>(&self, f: &mut fmt::Formatter<W>) -> fmt::Result {
+        for cell in 0..8 << (2 * self.level.min(mask::MAX_MASK_LEVEL)) {
+            if bitset::is_marked(self.mask, cell) {
+                self.style.name(cell).write_after_space(f)?;
+            }
+        }
+        Ok(())
+    }
+}
+
 // The marked cells, or none.
 fn write_cells(args: &Args<'_>, level: u32, mask: &[u8], out: &mut String) -> Result<(), Fault> {
-    for cell in 0..8 << (2 * level.min(mask::MAX_MASK_LEVEL)) {
-        if bitset::is_marked(mask, cell) {
-            write!(out, " {}", args.name(cell))?;
-        }
-    }
+    let names = MarkedNames {
+        level,
+        mask,
+        style: args.style,
+    };
+    write!(out, "{names}")?;
     if out.is_empty() {
         out.push_str("none")?;
     }

@@ -29,19 +29,47 @@ pub struct Name {
     style: Style,
 }
 
+// The names of a list of cells, with a space before each.
+#[derive(Clone, Copy)]
+pub struct Names<'a> {
+    pub cells: &'a [u32],
+    pub style: Style,
+}
+
+impl Name {
+    pub fn write_after_space<W: fmt::Write>(&self, f: &mut fmt::Formatter<W>) -> fmt::Result {
+        f.write_str(" ")?;
+        self.fmt(f)
+    }
+}
+
 impl Display for Name {
     fn fmt<W: fmt::Write>(&self, f: &mut fmt::Formatter<W>) -> fmt::Result {
         let cell = self.cell;
         match self.style {
-            Style::Number => write!(f, "{cell}"),
+            Style::Number => cell.fmt(f),
             Style::Address(level) => {
                 let level = level.min(cell::MAX_LEVEL);
-                write!(f, "@{}", (cell >> (2 * level)) % 8)?;
-                for place in (0..level).rev() {
-                    write!(f, "{}", (cell >> (2 * place)) % 4)?;
+                // An @, the octant's digit, and a digit a level, in one write: one for each digit costs several times as much. The places
+                // above the level are written over, or left out.
+                let mut text = [b'@'; 16];
+                for place in 0..16u32 {
+                    text[15 - place as usize] = b'0' + ((cell >> (2 * place)) % 4) as u8;
                 }
-                Ok(())
+                let octant = 15 - level as usize;
+                text[octant] = b'0' + ((cell >> (2 * level)) % 8) as u8;
+                text[octant - 1] = b'@';
+                f.write_str(str::from_utf8(&text[octant - 1..]).map_err(|_| fmt::Error)?)
             }
         }
+    }
+}
+
+impl Display for Names<'_> {
+    fn fmt<W: fmt::Write>(&self, f: &mut fmt::Formatter<W>) -> fmt::Result {
+        for cell in self.cells {
+            self.style.name(*cell).write_after_space(f)?;
+        }
+        Ok(())
     }
 }

@@ -1,4 +1,5 @@
 // Temperatures as text: whole eighths of a degree, as -5.0 or 20.125, and the floats next above and next below such a one, as 45.0+ and 45.0-.
+use crate::bits::Bits;
 use crate::words;
 use std::fmt;
 use std::fmt::Display;
@@ -7,7 +8,7 @@ use std::fmt::Display;
 pub struct Temperature(pub f32);
 
 // What stands after the point, by eighths.
-pub const DECIMALS: [&str; 8] = ["0", "125", "25", "375", "5", "625", "75", "875"];
+pub static DECIMALS: [&str; 8] = ["0", "125", "25", "375", "5", "625", "75", "875"];
 
 // Whole eighths, as many as are read: fewer than 2^22, and their digits a number below 2^24.
 fn eighths(text: &str) -> Option<f32> {
@@ -47,22 +48,8 @@ pub fn parse(text: &str) -> Option<f32> {
     Some(sign * eighths(size)?)
 }
 
-// Whether a temperature is whole eighths.
-fn is_eighths(t: f32) -> bool {
-    (t * 8.0).fract() == 0.0
-}
-
 impl Display for Temperature {
     fn fmt<W: fmt::Write>(&self, f: &mut fmt::Formatter<W>) -> fmt::Result {
-        let t = self.0;
-        if t.is_nan() {
-            write!(f, "nan")
-        } else if t.is_infinite() || is_eighths(t) {
-            write!(f, "{t:?}")
-        } else if is_eighths(t.next_up()) {
-            write!(f, "{:?}-", t.next_up())
-        } else {
-            write!(f, "{:?}+", t.next_down())
-        }
+        Bits::of(self.0).fmt(f)
     }
 }

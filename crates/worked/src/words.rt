@@ -1,5 +1,6 @@
 // The words of a case.
-use crate::{bits, temperature};
+use crate::bits::Bits;
+use crate::temperature;
 use cell::Kind;
 use std::alloc::{AllocError, Global};
 
@@ -7,7 +8,7 @@ use std::alloc::{AllocError, Global};
 pub const WORDS: usize = 4200;
 
 // The letters of the codes 0 to 7.
-pub const LETTERS: [&str; 8] = ["t", "l", "r", "e", "w", "T", "E", "W"];
+pub static LETTERS: [&str; 8] = ["t", "l", "r", "e", "w", "T", "E", "W"];
 
 #[derive(Clone, Copy)]
 pub enum Word {
@@ -105,8 +106,7 @@ impl Word {
         match self {
             Word::Number(n) => n,
             Word::Cell(n) => n,
-            Word::Temperature(t) if !t.is_nan() => t.to_bits(),
-            Word::Temperature(_) => bits::NAN,
+            Word::Temperature(t) => Bits::of(t).0,
             _ => 0,
         }
     }

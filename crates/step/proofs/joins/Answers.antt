@@ -1,6 +1,7 @@
 -- `joins` meets its contract: the place that the step leads to occurs, so that it is compared as its number would be.
 -- Assumes nothing.
 use mathlib.Core.Path.{sym, ap, ◌∙◌}
+use Rattle.std.proofs.Common.{Some}
 use Rattle.cell.specs.Cell.{number, place_of}
 use Rattle.code.specs.Step.{leads_to}
 use Rattle.code.proofs.Laws.{step_occurs}
@@ -8,10 +9,14 @@ use Rattle.step.specs.inside.Code.{code_of}
 use Rattle.step.proofs.Body.{same_leads}
 use Rattle.step.proofs.joins.Goals as goal
 
-pub returns : goal.returns
-returns c =
+pub returns-in-Some : goal.returns-in-Some
+returns-in-Some c =
     let a = c.args in
     let k = a.from.level.k in
+    let e = rw c.in-Some.is at c.target_of.ensures in
     c.eq.ensures
-    ∙ same_leads k _ a.to.place (λ p e. step_occurs k (place_of a.from.place) (code_of a.code) p a.from.occurs (sym c.target_of.ensures ∙ e)) (rw c.requires at a.to.occurs)
-    ∙ ap (leads_to k (number k (place_of a.to.place))) c.target_of.ensures
+    ∙ same_leads k (Some c.in-Some.target) a.to.place (λ p h. step_occurs k (place_of a.from.place) (code_of a.code) p a.from.occurs (sym e ∙ h)) (rw c.requires at a.to.occurs)
+    ∙ ap (leads_to k (number k (place_of a.to.place))) e
+
+pub returns-in-None : goal.returns-in-None
+returns-in-None c = simp (← c.target_of.ensures, c.in-None.is)
