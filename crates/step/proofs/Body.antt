@@ -8,8 +8,7 @@ use native.Mathlib.Omega.{arith}
 use lib.Dec.{leb, ltb, eqb}
 use lib.Pow.{pow_mono}
 use borrow.Author.Tests.{eqb-true, le-leb, eq-eqb, ne_eqb, leb-true}
-use Rattle.std.proofs.Common.{rules, Option, Some, None}
-use Rattle.std.specs.Option.{option_eq}
+use Rattle.std.proofs.Common.{rules}
 use Rattle.refusal.proofs.Tests.{same_test}
 use Rattle.cell.specs.Cell.{Triangle, span, Place, number, Occurs, triangle_of, place_of, max_level}
 use Rattle.cell.specs.declared.Kind.{Kind}
@@ -27,7 +26,6 @@ use Rattle.refusal.proofs.Answers.{passed, first}
 use mathlib.Core.List.{[], ◌∷◌}
 use mathlib.Core.Logic.{inl, inr}
 use Rattle.step.specs.inside.Code.{code_of}
-use Rattle.step.specs.inside.Target.{target_of}
 use Rattle.step.specs.declared.Code.{Code}
 
 -- N as the code shifts it
@@ -67,13 +65,11 @@ same_fields p q e =
     simp (eq-eqb p.octant q.octant (ap (λ (r : Place). r.0) e), f.0, f.1, f.2)
 
 -- so the code need not compare numbers
-pub same_leads : (k : ℕ) (s : Option declared.Place) (q : declared.Place) →
-    ((p : Place) → target_of s ≡ some p → Occurs k p) → Occurs k (place_of q) →
-    option_eq place-eq.it s (Some q) ≡ leads_to k (number k (place_of q)) (target_of s)
-same_leads k None q h g = refl
-same_leads k (Some p) q h g = same_test _ _
+pub same_leads : (k : ℕ) (p q : declared.Place) → Occurs k (place_of p) → Occurs k (place_of q) →
+    place-eq.it p q ≡ leads_to k (number k (place_of q)) (some (place_of p))
+same_leads k p q h g = same_test _ _
     (λ e. eq-eqb _ _ (ap (λ p. number k (place_of p)) (same_value p q e)))
-    (λ e. same_fields p q (one_place k (place_of p) (place_of q) (h _ refl) g (eqb-true _ _ e)))
+    (λ e. same_fields p q (one_place k (place_of p) (place_of q) h g (eqb-true _ _ e)))
 
 -- ---- codes that the code reads
 

@@ -2,6 +2,7 @@
 use crate::answer::Answer;
 use crate::args::Args;
 use crate::fault::Fault;
+use crate::name::Names;
 use crate::words::Word;
 use std::fmt::Write;
 
@@ -75,8 +76,10 @@ pub fn touching(args: &mut Args<'_>, out: &mut String) -> Result<(), Fault> {
         return Err(Fault::Unreadable);
     };
     let count = touch::touching_cells(level, cell, part)?;
-    for cell in part.iter().take(count as usize) {
-        write!(out, " {}", args.name(*cell))?;
-    }
+    let names = Names {
+        cells: part.get(..count as usize).unwrap_or(&[]),
+        style: args.style,
+    };
+    write!(out, "{names}")?;
     Ok(())
 }

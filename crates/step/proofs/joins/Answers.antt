@@ -1,7 +1,6 @@
 -- `joins` meets its contract: the place that the step leads to occurs, so that it is compared as its number would be.
 -- Assumes nothing.
 use mathlib.Core.Path.{sym, ap, ◌∙◌}
-use Rattle.std.proofs.Common.{Some}
 use Rattle.cell.specs.Cell.{number, place_of}
 use Rattle.code.specs.Step.{leads_to}
 use Rattle.code.proofs.Laws.{step_occurs}
@@ -15,7 +14,7 @@ returns-in-Some c =
     let k = a.from.level.k in
     let e = rw c.in-Some.is at c.target_of.ensures in
     c.eq.ensures
-    ∙ same_leads k (Some c.in-Some.target) a.to.place (λ p h. step_occurs k (place_of a.from.place) (code_of a.code) p a.from.occurs (sym e ∙ h)) (rw c.requires at a.to.occurs)
+    ∙ same_leads k c.in-Some.target a.to.place (step_occurs k (place_of a.from.place) (code_of a.code) _ a.from.occurs (sym e)) (rw c.requires at a.to.occurs)
     ∙ ap (leads_to k (number k (place_of a.to.place))) e
 
 pub returns-in-None : goal.returns-in-None
